@@ -1,0 +1,11 @@
+// Days, months, seasons and kinds of day, and the refusals that every layer answers with.
+pub mod day;
+pub mod month;
+pub mod refusal;
+pub mod season;
+
+pub use day::DayKind;
+pub use day::Weekday;
+pub use month::Month;
+pub use refusal::Refusal;
+pub use season::Season;

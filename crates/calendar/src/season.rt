@@ -1,0 +1,6 @@
+// The two price seasons.
+#[derive(Clone, Copy, PartialEq, Eq, Debug)]
+pub enum Season {
+    Summer,
+    OtherMonths,
+}
