@@ -21,13 +21,7 @@ fn days_of_month(leap_year: bool, month: u8) -> u8
     ensures short { λ r. ⌜ r ≤ 31 ⌝ }
 {
     match month {
-        2 => {
-            if leap_year {
-                29
-            } else {
-                28
-            }
-        }
+        2 => { if leap_year { 29 } else { 28 } }
         4 | 6 | 9 | 11 => 30,
         _ => 31,
     }

@@ -1,0 +1,3 @@
+pub mod Meaning
+pub mod Ranks
+pub mod S3
