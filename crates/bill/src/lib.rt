@@ -1,0 +1,5 @@
+// The bill of a month: quote, draft, issued bill and print.
+pub mod items;
+mod totals;
+
+pub use items::Items;
