@@ -1,1 +1,2 @@
+pub mod OffPeak
 pub mod Years

@@ -1,3 +1,4 @@
 pub mod Days
 pub mod Gregorian
+pub mod OffPeak
 pub mod Refusals

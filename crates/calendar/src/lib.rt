@@ -1,11 +1,14 @@
 // Days, months, seasons and kinds of day, and the refusals that every layer answers with.
 pub mod day;
 pub mod month;
+pub mod off_peak;
 pub mod refusal;
 pub mod season;
 
 pub use day::DayKind;
 pub use day::Weekday;
 pub use month::Month;
+pub use off_peak::OffPeakDay;
+pub use off_peak::is_off_peak;
 pub use refusal::Refusal;
 pub use season::Season;

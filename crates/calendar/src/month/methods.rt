@@ -3,7 +3,7 @@ ghost use mathlib.Core.Path.{_≡_};
 ghost use Rattle.calendar.specs.Gregorian.{leap, month-length, days-in-years, days-in-months, first-day-of, length-of, season-of, month-refusal};
 ghost use Rattle.std.specs.declared.option.Option.the-variants.{Some, None};
 ghost use Rattle.std.specs.declared.result.Result.the-variants.{Ok, Err};
-ghost use Prim.Native.Nat.{_+_, _-_, _≤_};
+ghost use Prim.Native.Nat.{_-_, _^_, _≤_, _<_};
 use super::Month;
 use crate::refusal::Refusal;
 use crate::season::Season;
@@ -71,7 +71,8 @@ impl Month {
 
     // The day on which this month begins.
     pub fn first_day(&self) -> u32
-        ensures { λ r. ⌜ r ≡ first-day-of (now (self .entry) .year) (now (self .entry) .month) ⌝ }
+        ensures value { λ r. ⌜ r ≡ first-day-of (now (self .entry) .year) (now (self .entry) .month) ⌝ }
+        ensures small { λ r. ⌜ r < 2 ^ 16 ⌝ }
     {
         days_before_year(self.year) + u32::from(days_before_month(is_leap(self.year), self.month))
     }
