@@ -6,3 +6,4 @@ pub use code::MeterCode;
 pub use sheet::HIGHEST_READING;
 pub use sheet::SLOTS_A_DAY;
 pub use sheet::Sheet;
+pub use sheet::any_above;
