@@ -1,1 +1,2 @@
+pub mod Quotes
 pub mod Slots
