@@ -1,10 +1,13 @@
 // Days, months, seasons and kinds of day, and the refusals that every layer answers with.
+pub mod date;
 pub mod day;
 pub mod month;
 pub mod off_peak;
 pub mod refusal;
 pub mod season;
 
+pub use date::Date;
+pub use date::day_number;
 pub use day::DayKind;
 pub use day::Weekday;
 pub use month::Month;

@@ -3,6 +3,11 @@ ghost use Prim.Native.Nat.{_≤_};
 
 mod methods;
 
+pub(crate) use methods::days_before_month;
+pub(crate) use methods::days_before_year;
+pub(crate) use methods::days_of_month;
+pub(crate) use methods::is_leap;
+
 #[derive(Clone, Copy)]
 pub struct Month {
     year: u16,

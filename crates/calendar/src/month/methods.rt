@@ -9,14 +9,14 @@ use crate::refusal::Refusal;
 use crate::season::Season;
 
 // The Gregorian leap years.
-fn is_leap(year: u16) -> bool
+pub(crate) fn is_leap(year: u16) -> bool
     ensures { λ r. ⌜ r ≡ leap year ⌝ }
 {
     year % 4 == 0 && (year % 100 != 0 || year % 400 == 0)
 }
 
 // The days of a month.
-fn days_of_month(leap_year: bool, month: u8) -> u8
+pub(crate) fn days_of_month(leap_year: bool, month: u8) -> u8
     ensures value { λ r. ⌜ r ≡ month-length «leap_year» month ⌝ }
     ensures short { λ r. ⌜ r ≤ 31 ⌝ }
 {
@@ -28,7 +28,7 @@ fn days_of_month(leap_year: bool, month: u8) -> u8
 }
 
 // The days of the years from 2000 to the one before this.
-fn days_before_year(year: u16) -> u32
+pub(crate) fn days_before_year(year: u16) -> u32
     requires from { ⌜ 2000 ≤ year ⌝ }
     requires to { ⌜ year ≤ 2100 ⌝ }
     ensures value { λ r. ⌜ r ≡ days-in-years (year - 2000) ⌝ }
@@ -39,7 +39,7 @@ fn days_before_year(year: u16) -> u32
 }
 
 // The days of the months of a year before this one.
-fn days_before_month(leap_year: bool, month: u8) -> u16
+pub(crate) fn days_before_month(leap_year: bool, month: u8) -> u16
     requires from { ⌜ 1 ≤ month ⌝ }
     requires to { ⌜ month ≤ 12 ⌝ }
     ensures value { λ r. ⌜ r ≡ days-in-months «leap_year» (month - 1) ⌝ }

@@ -1,0 +1,16 @@
+-- Dates and their day numbers. Assumes nothing.
+use mathlib.Core.Path.{_≡_}
+use mathlib.Core.Bool.{Bool, cond, _&&_}
+use Prim.Native.Nat.{ℕ, _+_, _-_, _≤_, _<_}
+use lib.Dec.{leb}
+use Rattle.std.specs.declared.option.Option.{Option}
+use Rattle.std.specs.declared.option.Option.the-variants.{Some, None}
+use Rattle.calendar.specs.Gregorian.{first-day-of, length-of}
+
+-- 2000 to 2099 have this date
+abbrev pub is-date : ℕ → ℕ → ℕ → Bool
+is-date year month day = ((leb 2000 year && leb year 2099) && (leb 1 month && leb month 12)) && (leb 1 day && leb day (length-of year month))
+
+-- the number of a date's day: the days of the month before it, from the month's first day on
+abbrev pub date-day : ℕ → ℕ → ℕ → Option ℕ
+date-day year month day = cond (is-date year month day) (Some (first-day-of year month + (day - 1))) None
