@@ -1,3 +1,4 @@
+pub mod CalendarLaws
 pub mod Dates
 pub mod Days
 pub mod Gregorian

@@ -1,6 +1,7 @@
 // Dates of the years 2000 to 2099 and their day numbers, both ways.
 ghost use mathlib.Core.Path.{_≡_};
 ghost use Prim.Native.Nat.{_≤_, _<_};
+ghost use Rattle.calendar.specs.CalendarLaws.{Later-is-larger, One-date};
 ghost use Rattle.calendar.specs.Dates.{date-day, InYear, InMonth};
 ghost use Rattle.calendar.specs.Gregorian.{days-in-months};
 ghost use Rattle.std.specs.Options.{Cases as BySome};
@@ -19,7 +20,8 @@ pub struct Date {
 
 // The number of a date's day, or none where 2000 to 2099 lack it.
 pub fn day_number(year: u32, month: u32, day: u32) -> Option<u32>
-    ensures { λ r. ⌜ r ≡ date-day year month day ⌝ }
+    ensures value { λ r. ⌜ r ≡ date-day year month day ⌝ }
+    ensures order { λ _. ⌜ Later-is-larger ⌝ }
 {
     if year < 2000 || year > 2099 || month < 1 || month > 12 || day < 1 {
         return None;
@@ -75,7 +77,8 @@ fn month_of_year(leap_year: bool, before: u16) -> Option<(u8, u8)>
 impl Date {
     // The date of a day, or none past 31 December 2099.
     pub fn of(day: u32) -> Option<Date>
-        ensures { λ r. ⌜ BySome r (36524 < day) (λ d. date-day (d .year) (d .month) (d .day) ≡ Some day) ⌝ }
+        ensures value { λ r. ⌜ BySome r (36524 < day) (λ d. date-day (d .year) (d .month) (d .day) ≡ Some day) ⌝ }
+        ensures only { λ _. ⌜ One-date ⌝ }
     {
         let Some((year, before)) = year_of(day) else {
             return None;
