@@ -35,8 +35,8 @@ year-ends year from =
 pub abuts : (year month : ℕ) → 2000 ≤ year → 1 ≤ month → Abuts year month
 abuts year month from low =
     elim (cases-bool (eqb month 12)) [
-      inl e ↦ subst (λ (m : ℕ). Abuts year m) (sym (eqb-true month 12 e)) (year-ends year from)
-    | inr e ↦ ap (λ b. first-day-of (cond b (year + 1) year) (cond b 1 (month + 1))) e ∙ month-ends year month low
+      | inl e ↦ subst (λ (m : ℕ). Abuts year m) (sym (eqb-true month 12 e)) (year-ends year from)
+      | inr e ↦ ap (λ b. first-day-of (cond b (year + 1) year) (cond b 1 (month + 1))) e ∙ month-ends year month low
     ]
 
 -- the days of months and years only grow
@@ -44,16 +44,16 @@ months-grow : (b : Bool) (m n : ℕ) → m ≤ n → days-in-months b m ≤ days
 months-grow b m zero h = let e : m ≡ 0 = omega arith in let f = ap (days-in-months b) e in omega (arith, f)
 months-grow b m (suc n) h =
     elim (cases-order m (suc n)) [
-      inl e ↦ let f = ap (days-in-months b) e in omega (arith, f)
-    | inr o ↦ elim o [ inl l ↦ let f = months-grow b m n (omega arith) in omega (arith, f) | inr g ↦ absurd (omega arith) ]
+      | inl e ↦ let f = ap (days-in-months b) e in omega (arith, f)
+      | inr o ↦ elim o [ inl l ↦ let f = months-grow b m n (omega arith) in omega (arith, f) | inr g ↦ absurd (omega arith) ]
     ]
 
 years-grow : (m n : ℕ) → m ≤ n → days-in-years m ≤ days-in-years n
 years-grow m zero h = let e : m ≡ 0 = omega arith in let f = ap days-in-years e in omega (arith, f)
 years-grow m (suc n) h =
     elim (cases-order m (suc n)) [
-      inl e ↦ let f = ap days-in-years e in omega (arith, f)
-    | inr o ↦ elim o [ inl l ↦ let f = years-grow m n (omega arith) in omega (arith, f) | inr g ↦ absurd (omega arith) ]
+      | inl e ↦ let f = ap days-in-years e in omega (arith, f)
+      | inr o ↦ elim o [ inl l ↦ let f = years-grow m n (omega arith) in omega (arith, f) | inr g ↦ absurd (omega arith) ]
     ]
 
 -- what a date's number is made of
@@ -92,44 +92,46 @@ before-month-end year month day n k = let e = month-ends year month (k .low) in 
 pub later-is-larger : Later-is-larger
 later-is-larger year month day year′ month′ day′ n n′ e e′ earlier =
     elim earlier [
-      inl y ↦
-        let a = before-month-end year month day n k in
-        let b = months-grow (leap year) (month + 1 - 1) 12 (omega (arith, k .high)) in
-        let c = years-more year (k .from) in
-        let d = years-grow (year + 1 - 2000) (year′ - 2000) (omega arith) in
-        omega (arith, a, b, c, d, k′ .number)
-    | inr s ↦ elim (s .1) [
-        inl m ↦
+      | inl y ↦
           let a = before-month-end year month day n k in
-          let b = months-grow (leap year) (month + 1 - 1) (month′ - 1) (omega arith) in
-          let c = ap (λ y. days-in-years (y - 2000) + days-in-months (leap y) (month′ - 1)) (s .0) in
-          omega (arith, a, b, c, k′ .number)
-      | inr d ↦
-          let c = ap (λ y. first-day-of y month) (s .0) in
-          let f = ap (λ m. first-day-of year′ m) (d .0) in
-          omega (arith, c, f, k .number, k′ .number, k .first, d .1)
+          let b = months-grow (leap year) (month + 1 - 1) 12 (omega (arith, k .high)) in
+          let c = years-more year (k .from) in
+          let d = years-grow (year + 1 - 2000) (year′ - 2000) (omega arith) in
+          omega (arith, a, b, c, d, k′ .number)
+      | inr s ↦ elim (s .1) [
+        | inl m ↦
+            let a = before-month-end year month day n k in
+            let b = months-grow (leap year) (month + 1 - 1) (month′ - 1) (omega arith) in
+            let c = ap (λ y. days-in-years (y - 2000) + days-in-months (leap y) (month′ - 1)) (s .0) in
+            omega (arith, a, b, c, k′ .number)
+        | inr d ↦
+            let c = ap (λ y. first-day-of y month) (s .0) in
+            let f = ap (λ m. first-day-of year′ m) (d .0) in
+            omega (arith, c, f, k .number, k′ .number, k .first, d .1)
       ]
     ]
   where
     k : Known year month day n
     k = known year month day n e
+
     k′ : Known year′ month′ day′ n′
     k′ = known year′ month′ day′ n′ e′
 
 pub one-date : One-date
 one-date year month day year′ month′ day′ n e e′ =
     elim (cases-order year year′) [
-      inr o ↦ elim o [ inl l ↦ absurd (forth (inl l)) | inr g ↦ absurd (back (inl g)) ]
-    | inl y ↦ elim (cases-order month month′) [
-        inr o ↦ elim o [ inl l ↦ absurd (forth (inr (y, inl l))) | inr g ↦ absurd (back (inr (sym y, inl g))) ]
-      | inl m ↦ elim (cases-order day day′) [
-          inr o ↦ elim o [ inl l ↦ absurd (forth (inr (y, inr (m, l)))) | inr g ↦ absurd (back (inr (sym y, inr (sym m, g)))) ]
-        | inl d ↦ (y, (m, d))
+      | inr o ↦ elim o [ inl l ↦ absurd (forth (inl l)) | inr g ↦ absurd (back (inl g)) ]
+      | inl y ↦ elim (cases-order month month′) [
+        | inr o ↦ elim o [ inl l ↦ absurd (forth (inr (y, inl l))) | inr g ↦ absurd (back (inr (sym y, inl g))) ]
+        | inl m ↦ elim (cases-order day day′) [
+          | inr o ↦ elim o [ inl l ↦ absurd (forth (inr (y, inr (m, l)))) | inr g ↦ absurd (back (inr (sym y, inr (sym m, g)))) ]
+          | inl d ↦ (y, (m, d))
         ]
       ]
     ]
   where
     forth : Earlier year month day year′ month′ day′ → ⊥
     forth x = let l = later-is-larger year month day year′ month′ day′ n n e e′ x in omega arith
+
     back : Earlier year′ month′ day′ year month day → ⊥
     back x = let l = later-is-larger year′ month′ day′ year month day n n e′ e x in omega arith

@@ -15,3 +15,6 @@ pub use off_peak::OffPeakDay;
 pub use off_peak::is_off_peak;
 pub use refusal::Refusal;
 pub use season::Season;
+
+#[cfg(test)]
+mod tests;
