@@ -1,3 +1,5 @@
+pub mod BookModels
+pub mod Books
 pub mod CalendarLaws
 pub mod Dates
 pub mod Days

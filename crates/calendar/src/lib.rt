@@ -1,4 +1,5 @@
 // Days, months, seasons and kinds of day, and the refusals that every layer answers with.
+pub mod book;
 pub mod date;
 pub mod day;
 pub mod month;
@@ -6,6 +7,8 @@ pub mod off_peak;
 pub mod refusal;
 pub mod season;
 
+pub use book::Book;
+pub use book::Entry;
 pub use date::Date;
 pub use date::day_number;
 pub use day::DayKind;
