@@ -30,15 +30,19 @@ granted text e = simp e
 
 pub ghost-result : need.ghost-result
 ghost-result c =
-    let text = c .args .text .now in
-    (omega arith,
-     (code-like text _
-     (passed text (omega arith) (omega arith) (c .if-not-is-printable .ensures tt))
-     (front text (c .copy-from-slice .last .self) _ (c .copy-from-slice .ensures .after)),
-     tt))
+    let text = c .args .text .now in (
+      omega arith,
+      (
+        code-like text _
+            (passed text (omega arith) (omega arith) (c .if-not-is-printable .ensures tt))
+            (front text (c .copy-from-slice .last .self) _ (c .copy-from-slice .ensures .after)),
+        tt,
+      ),
+    )
 
 pub returns : need.returns
 returns c =
-    let text = c .args .text .now in
-    (granted text (passed text (omega arith) (omega arith) (c .if-not-is-printable .ensures tt)),
-     front text (c .copy-from-slice .last .self) _ (c .copy-from-slice .ensures .after))
+    let text = c .args .text .now in (
+      granted text (passed text (omega arith) (omega arith) (c .if-not-is-printable .ensures tt)),
+      front text (c .copy-from-slice .last .self) _ (c .copy-from-slice .ensures .after),
+    )

@@ -25,5 +25,5 @@ loop-b-again c =
 pub returns : need.returns
 returns c =
     let none : printable (drop (c .loop-b .b-index) (c .args .text .now)) ≡ true =
-        at-drop-all printable (c .args .text .now) (c .loop-b .b-index) (omega arith) in
+    at-drop-all printable (c .args .text .now) (c .loop-b .b-index) (omega arith) in
     sym none ∙ c .loop-b .inv
