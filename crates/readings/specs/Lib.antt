@@ -1,4 +1,5 @@
 pub mod CodeBytes
 pub mod Codes
-pub mod Sheets
+pub mod Cuts
 pub mod SheetModels
+pub mod Sheets
