@@ -19,7 +19,7 @@ use Rattle.std.specs.declared.result.Result.{Result}
 use Rattle.std.specs.declared.result.Result.the-variants.{Ok, Err}
 use Rattle.calendar.specs.declared.refusal.Refusal.{Refusal}
 use Rattle.calendar.specs.declared.refusal.Refusal.the-variants.{KeyAlreadyBooked, BookFull}
-use Rattle.calendar.specs.Books.{found, place-of, placed, booking-answer, after-booking, Above, Rising}
+use Rattle.calendar.specs.Books.{found, place-of, placed, booking-answer, after-booking, Above, Rising, Among, Members-determine}
 
 module _ {E : Type 0} (key : E → ℕ) where
   -- an entry goes past those in front of smaller keys
@@ -150,3 +150,46 @@ module _ {E : Type 0} (key : E → ℕ) where
 
       placed-there : take (min (end + 1) (length ys)) ys ≡ placed key e (take n xs)
       placed-there = after-entries xs ys n e room wrote′ (min (end + 1) (length ys)) held
+
+  -- a member of a list above k has a larger key
+  member-above : (k : ℕ) (e : E) (es : List E) → Above key k es → Among e es → k < key e
+  member-above k e [] a m = absurd m
+  member-above k e (x ∷ xs) a m =
+      elim m [ inl same ↦ subst (λ (y : E). k < key y) (sym same) (a .0) | inr rest ↦ member-above k e xs (a .1) rest ]
+
+  -- the first of two rising lists with the same members are the same, since each is among the other's and neither has the larger key
+  same-first : (x y : E) (xs ys : List E) → Above key (key x) xs → Above key (key y) ys → Among x (y ∷ ys) → Among y (x ∷ xs) → x ≡ y
+  same-first x y xs ys a b m n =
+      elim m [
+        inl same ↦ same
+      | inr later ↦ elim n [
+          inl same ↦ sym same
+        | inr later′ ↦
+            let p = member-above (key y) x ys b later in
+            let q = member-above (key x) y xs a later′ in
+            absurd (omega (arith, p, q))
+        ]
+      ]
+
+  -- what is among the others of one is among the others of the other
+  later-too : (x y e : E) (xs ys : List E) → x ≡ y → Above key (key x) xs → Among e xs → Among e (y ∷ ys) → Among e ys
+  later-too x y e xs ys same a m n =
+      elim n [
+        inl first ↦
+          let p = member-above (key x) e xs a m in
+          let q = ap key (first ∙ sym same) in
+          absurd (omega (arith, p, q))
+      | inr rest ↦ rest
+      ]
+
+  pub members-determine : Members-determine key
+  members-determine [] [] r s to from = refl
+  members-determine [] (y ∷ ys) r s to from = absurd (from y (inl refl))
+  members-determine (x ∷ xs) [] r s to from = absurd (to x (inl refl))
+  members-determine (x ∷ xs) (y ∷ ys) r s to from =
+      let first : x ≡ y = same-first x y xs ys (r .0) (s .0) (to x (inl refl)) (from y (inl refl)) in
+      let rest : xs ≡ ys =
+          members-determine xs ys (r .1) (s .1)
+          (λ e m. later-too x y e xs ys first (r .0) m (to e (inr m)))
+          (λ e m. later-too y x e ys xs (sym first) (s .0) m (from e (inr m))) in
+      cc

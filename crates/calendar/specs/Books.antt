@@ -1,6 +1,7 @@
 -- What a date book holds and what a booking does, for every kind of entry with a key. Assumes nothing.
 use mathlib.Core.Bool.{Bool, cond}
 use mathlib.Core.List.{List, [], _∷_, _++_}
+use mathlib.Core.Logic.{_⊎_}
 use mathlib.Core.Path.{_≡_}
 use Prim.Native.Nat.{ℕ, _<_}
 use lib.Dec.{eqb, ltb, leb}
@@ -48,3 +49,13 @@ Above key k (e ∷ es) = (k < key e) × Above key k es
 abbrev pub Rising : {E : Type 0} → (E → ℕ) → List E → Type 0
 Rising key [] = Unit {0}
 Rising key (e ∷ es) = Above key (key e) es × Rising key es
+
+-- the entry is one of these
+abbrev pub Among : {E : Type 0} → E → List E → Type 0
+Among e [] = ⊥
+Among e (x ∷ xs) = (e ≡ x) ⊎ Among e xs
+
+-- rising lists with the same members are the same list, in whatever order the members were booked
+abbrev pub Members-determine : {E : Type 0} → (E → ℕ) → Type 0
+Members-determine {E} key =
+    (es fs : List E) → Rising key es → Rising key fs → ((e : E) → Among e es → Among e fs) → ((e : E) → Among e fs → Among e es) → es ≡ fs

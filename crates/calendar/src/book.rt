@@ -6,7 +6,7 @@ ghost use Prim.Native.Nat.{ℕ, _+_, _-_, _≤_, _<_};
 ghost use denote.Ref.{name};
 ghost use lib.ListN.{length, take, drop};
 ghost use Rattle.std.specs.Results.{isOk};
-ghost use Rattle.calendar.specs.Books.{found, place-of, booking-answer, after-booking, Rising};
+ghost use Rattle.calendar.specs.Books.{found, place-of, booking-answer, after-booking, Rising, Members-determine};
 ghost use Rattle.calendar.specs.BookModels.{book-entries, book-held, book-storage};
 use crate::refusal::Refusal;
 
@@ -71,7 +71,8 @@ impl<'a, E: Entry> Book<'a, E> {
 
     // The entries that the book holds, where they stand.
     pub fn entries(&self) -> &[E]
-        ensures { λ r. ⌜ now r ≡ book-entries (now (self .entry)) ⌝ }
+        ensures value { λ r. ⌜ now r ≡ book-entries (now (self .entry)) ⌝ }
+        ensures determined { λ _. ⌜ Members-determine (E·Entry .keyed) ⌝ }
     {
         let held = self.count.min(self.places.len());
         &self.places[0..held]

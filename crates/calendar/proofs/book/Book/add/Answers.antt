@@ -17,8 +17,8 @@ insert-at-requires g c κs =
     let granted = sym (c .judge .ensures) ∙ c .in-Continue-judge .was tt in
     let room = granted-parts key (book-entries (c .args .self .now)) (length (book-storage (c .args .self .now))) (c .args .entry) granted .1 in
     let most = leading-le-length (λ x. ltb (key x) (c .key .result)) (c .entries .result .now) in
-    let first = ap length (c .entries-end .ensures) in
-    let second = ap length (c .entries .ensures) in
+    let first = ap length (c .entries-end .ensures .value) in
+    let second = ap length (c .entries .ensures .value) in
     record { within = omega (arith, most, first, second, c .place-among-at .ensures); room = omega (arith, first, room) }
 
 pub returns : need.returns
@@ -29,8 +29,8 @@ returns g c =
     let low : n ≤ length xs = omega arith in
     let granted = sym (c .judge .ensures) ∙ c .in-Continue-judge .was tt in
     let at : c .place-among-at .result ≡ place-of key (key (c .args .entry)) (take n xs) =
-    c .place-among-at .ensures ∙ ap (λ k. place-of key k (c .entries .result .now)) (c .key .ensures) ∙ ap (place-of key (key (c .args .entry))) (c .entries .ensures) in
-    let all = booked key xs (c .insert-at .last .places) n (length (c .entries-end .result .now)) (c .place-among-at .result) (c .args .entry) low granted (ap length (c .entries-end .ensures)) at (c .insert-at .ensures) in
+    c .place-among-at .ensures ∙ ap (λ k. place-of key k (c .entries .result .now)) (c .key .ensures) ∙ ap (place-of key (key (c .args .entry))) (c .entries .ensures .value) in
+    let all = booked key xs (c .insert-at .last .places) n (length (c .entries-end .result .now)) (c .place-among-at .result) (c .args .entry) low granted (ap length (c .entries-end .ensures .value)) at (c .insert-at .ensures) in
     record {
       answer = sym granted;
       after = all .entries;
