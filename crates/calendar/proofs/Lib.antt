@@ -1,5 +1,4 @@
 pub mod Books
 pub mod Laws
-pub mod OffPeak
 pub mod Rising
 pub mod Years

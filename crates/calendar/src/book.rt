@@ -26,7 +26,7 @@ pub struct Book<'a, E> {
 }
 
 // The entry with this key, if there is one.
-fn find_among<E: Entry>(entries: &[E], key: u32) -> Option<E>
+pub(crate) fn find_among<E: Entry>(entries: &[E], key: u32) -> Option<E>
     ensures { λ r. ⌜ r ≡ found (E·Entry .keyed) key (now (entries .entry)) ⌝ }
 {
     for entry in entries {

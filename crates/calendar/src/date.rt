@@ -11,6 +11,9 @@ use crate::month::days_before_year;
 use crate::month::days_of_month;
 use crate::month::is_leap;
 
+// The last day of the calendar, 31 December 2099.
+pub const LAST_DAY: u32 = 36_524;
+
 #[derive(Clone, Copy, PartialEq, Eq, Debug)]
 pub struct Date {
     pub year: u16,

@@ -4,6 +4,7 @@ ghost use Prim.Native.Nat.{_≤_};
 mod methods;
 
 pub use methods::is_off_peak;
+pub use methods::OffPeakDayEntry;
 
 #[derive(Clone, Copy)]
 pub struct OffPeakDay {
