@@ -5,14 +5,15 @@ use mathlib.Core.Logic.{_⊎_, inl, inr}
 use Prim.Native.Nat.{ℕ, zero, suc, _+_, _-_, _%_, _≤_, _<_}
 use native.Mathlib.Omega.{arith}
 use lib.Dec.{eqb, leb}
-use Rattle.std.proofs.shelf.Tests.{and-parts, leb-true, cases-bool, cases-order, eqb-true, eqb-false}
+use Rattle.std.proofs.shelf.Tests.{and-parts, leb-true, cases-bool, cases-lt, cases-order, eqb-true, eqb-false}
 use Rattle.std.proofs.shelf.Ways.{tells}
 use Rattle.std.specs.declared.option.Option.{Option}
 use Rattle.std.specs.declared.option.Option.the-variants.{Some, None}
 use Rattle.calendar.specs.CalendarLaws.{next-year, next-month, Abuts, Earlier, Later-is-larger, One-date, next-weekday, Goes-round}
-use Rattle.calendar.specs.Dates.{is-date, date-day}
+use Rattle.calendar.specs.Dates.{is-date, date-day, Within}
 use Rattle.calendar.specs.Days.{weekday-of}
-use Rattle.calendar.specs.Gregorian.{leap, month-length, days-in-months, days-in-years, first-day-of, length-of}
+use Rattle.calendar.specs.Gregorian.{leap, month-length, days-in-months, days-in-years, first-day-of, length-of, month-refusal}
+use Rattle.calendar.specs.declared.refusal.Refusal.{Refusal}
 use Rattle.calendar.proofs.Years.{months-more, years-more}
 
 pub goes-round : (day : ℕ) → Goes-round day
@@ -57,13 +58,14 @@ years-grow m (suc n) h =
     ]
 
 -- what a date's number is made of
-record Known (year month day n : ℕ) : Type 0 where
-  from : 2000 ≤ year
-  low : 1 ≤ month
-  high : month ≤ 12
-  first : 1 ≤ day
-  last : day ≤ length-of year month
-  number : n ≡ first-day-of year month + (day - 1)
+pub record Known (year month day n : ℕ) : Type 0 where
+  pub from : 2000 ≤ year
+  pub to : year ≤ 2099
+  pub low : 1 ≤ month
+  pub high : month ≤ 12
+  pub first : 1 ≤ day
+  pub last : day ≤ length-of year month
+  pub number : n ≡ first-day-of year month + (day - 1)
 
 known-if : (year month day n : ℕ) (b : Bool) → is-date year month day ≡ b → cond b (Some (first-day-of year month + (day - 1))) None ≡ Some n → Known year month day n
 known-if year month day n true e f =
@@ -74,6 +76,7 @@ known-if year month day n true e f =
     let d = and-parts (leb 1 day) (leb day (length-of year month)) (all .1) in
     record {
       from = leb-true 2000 year (y .0);
+      to = leb-true year 2099 (y .1);
       low = leb-true 1 month (m .0);
       high = leb-true month 12 (m .1);
       first = leb-true 1 day (d .0);
@@ -82,7 +85,7 @@ known-if year month day n true e f =
     }
 known-if year month day n false e f = absurd (let z : _≡_ {A = ℕ} 0 1 = cc in omega arith)
 
-known : (year month day n : ℕ) → date-day year month day ≡ Some n → Known year month day n
+pub known : (year month day n : ℕ) → date-day year month day ≡ Some n → Known year month day n
 known year month day n e = known-if year month day n (is-date year month day) refl e
 
 -- the day lies before the end of its month, and its month before the end of its year
@@ -135,3 +138,27 @@ one-date year month day year′ month′ day′ n e e′ =
 
     back : Earlier year′ month′ day′ year month day → ⊥
     back x = let l = later-is-larger year′ month′ day′ year month day n n e′ e x in omega arith
+
+-- the date of a day tells the month that the day is in
+pub in-month : (year month day n : ℕ) → Known year month day n → Within n year month
+in-month year month day n k = record { from = let e = k .number in omega arith; to = let e = k .number in let f = k .first in let g = k .last in omega arith }
+
+-- a month is refused for a date of the calendar only in 2000
+pub refused-early : (year month day n : ℕ) (e : Refusal) → Known year month day n → month-refusal year month ≡ Some e → n < 366
+refused-early year month day n e k r =
+    let y : year ≡ 2000 = early in
+    let a = before-month-end year month day n k in
+    let b = months-grow (leap year) (month + 1 - 1) 12 (omega (arith, k .high)) in
+    let c = ap (λ z. days-in-years (z - 2000) + days-in-months (leap z) 12) y in
+    omega (arith, a, b, c)
+  where
+    not-later : 2001 ≤ year → ⊥
+    not-later from =
+        let to = k .to in
+        let low = k .low in
+        let high = k .high in
+        let none : month-refusal year month ≡ None = grind (arith, tells) in
+        let z : _≡_ {A = ℕ} 0 1 = cc in omega arith
+
+    early : year ≡ 2000
+    early = elim (cases-lt year 2001) [ inl l ↦ omega (arith, k .from) | inr l ↦ absurd (not-later l) ]

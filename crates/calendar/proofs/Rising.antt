@@ -161,13 +161,13 @@ module _ {E : Type 0} (key : E → ℕ) where
   same-first : (x y : E) (xs ys : List E) → Above key (key x) xs → Above key (key y) ys → Among x (y ∷ ys) → Among y (x ∷ xs) → x ≡ y
   same-first x y xs ys a b m n =
       elim m [
-        inl same ↦ same
-      | inr later ↦ elim n [
-          inl same ↦ sym same
-        | inr later′ ↦
-            let p = member-above (key y) x ys b later in
-            let q = member-above (key x) y xs a later′ in
-            absurd (omega (arith, p, q))
+        | inl same ↦ same
+        | inr later ↦ elim n [
+          | inl same ↦ sym same
+          | inr later′ ↦
+              let p = member-above (key y) x ys b later in
+              let q = member-above (key x) y xs a later′ in
+              absurd (omega (arith, p, q))
         ]
       ]
 
@@ -175,11 +175,11 @@ module _ {E : Type 0} (key : E → ℕ) where
   later-too : (x y e : E) (xs ys : List E) → x ≡ y → Above key (key x) xs → Among e xs → Among e (y ∷ ys) → Among e ys
   later-too x y e xs ys same a m n =
       elim n [
-        inl first ↦
-          let p = member-above (key x) e xs a m in
-          let q = ap key (first ∙ sym same) in
-          absurd (omega (arith, p, q))
-      | inr rest ↦ rest
+        | inl first ↦
+            let p = member-above (key x) e xs a m in
+            let q = ap key (first ∙ sym same) in
+            absurd (omega (arith, p, q))
+        | inr rest ↦ rest
       ]
 
   pub members-determine : Members-determine key
@@ -189,7 +189,7 @@ module _ {E : Type 0} (key : E → ℕ) where
   members-determine (x ∷ xs) (y ∷ ys) r s to from =
       let first : x ≡ y = same-first x y xs ys (r .0) (s .0) (to x (inl refl)) (from y (inl refl)) in
       let rest : xs ≡ ys =
-          members-determine xs ys (r .1) (s .1)
-          (λ e m. later-too x y e xs ys first (r .0) m (to e (inr m)))
-          (λ e m. later-too y x e ys xs (sym first) (s .0) m (from e (inr m))) in
+      members-determine xs ys (r .1) (s .1)
+      (λ e m. later-too x y e xs ys first (r .0) m (to e (inr m)))
+      (λ e m. later-too y x e ys xs (sym first) (s .0) m (from e (inr m))) in
       cc

@@ -1,5 +1,6 @@
 -- Calls for demand response. Assumes nothing.
 use mathlib.Core.Bool.{Bool, cond, not, _&&_, _||_}
+use mathlib.Core.List.{List}
 use Prim.Native.Nat.{ℕ, _+_, _*_}
 use lib.Dec.{eqb, leb, ltb}
 use Rattle.std.specs.declared.option.Option.{Option}
@@ -9,6 +10,7 @@ use Rattle.calendar.specs.declared.call.CallKind.{CallKind}
 use Rattle.calendar.specs.declared.call.CallKind.the-variants.{Programme, Flexible}
 use Rattle.calendar.specs.declared.refusal.Refusal.{Refusal}
 use Rattle.calendar.specs.declared.refusal.Refusal.the-variants.{DayOutOfRange, UnknownCallKind, CallHoursOutOfRange}
+use Rattle.calendar.specs.Books.{found}
 
 -- kind 1 is a call of the programme, kind 2 one of the flexible layer
 abbrev pub kind-number : CallKind → ℕ
@@ -38,3 +40,7 @@ end-slot c = 4 * (c .start + c .hours)
 -- a slot of the call's day is one of its slots
 abbrev pub covers : Call → ℕ → Bool
 covers c slot = leb (first-slot c) slot && ltb slot (end-slot c)
+
+-- the call of this kind on a day, if one of these is
+abbrev pub call-of-day : List Call → ℕ → CallKind → Option Call
+call-of-day calls day kind = found call-key (8 * day + kind-number kind) calls

@@ -28,3 +28,8 @@ pub record InMonth (leap-year : Bool) (before month earlier : ℕ) : Type 0 wher
   pub to : month ≤ 12
   pub within : earlier < month-length leap-year month
   pub counts : before ≡ days-in-months leap-year (month - 1) + earlier
+
+-- the day lies in this month
+pub record Within (day year month : ℕ) : Type 0 where
+  pub from : first-day-of year month ≤ day
+  pub to : day < first-day-of year month + length-of year month

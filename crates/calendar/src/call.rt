@@ -4,6 +4,7 @@ ghost use Prim.Native.Nat.{_+_, _≤_};
 mod methods;
 
 pub use methods::CallEntry;
+pub use methods::call_on;
 
 // A call of the programme, or of the flexible layer over it.
 #[derive(Clone, Copy, PartialEq, Eq, Debug)]

@@ -1,11 +1,13 @@
 // Dates of the years 2000 to 2099 and their day numbers, both ways.
+ghost use mathlib.Core.Logic.{_⊎_};
 ghost use mathlib.Core.Path.{_≡_};
 ghost use Prim.Native.Nat.{_≤_, _<_};
 ghost use Rattle.calendar.specs.CalendarLaws.{Later-is-larger, One-date};
-ghost use Rattle.calendar.specs.Dates.{date-day, InYear, InMonth};
+ghost use Rattle.calendar.specs.Dates.{date-day, InYear, InMonth, Within};
 ghost use Rattle.calendar.specs.Gregorian.{days-in-months};
 ghost use Rattle.std.specs.Options.{Cases as BySome};
 ghost use Rattle.std.specs.declared.option.Option.the-variants.{Some};
+use crate::month::Month;
 use crate::month::days_before_month;
 use crate::month::days_before_year;
 use crate::month::days_of_month;
@@ -94,5 +96,20 @@ impl Date {
             month,
             day: earlier + 1,
         })
+    }
+}
+
+impl Month {
+    // The month that a day is in, or none where it cannot be billed: in 2000, and past 2099.
+    pub fn of_day(day: u32) -> Option<Month>
+        ensures { λ r. ⌜ BySome r ((day < 366) ⊎ (36524 < day)) (λ m. Within day (m .year) (m .month)) ⌝ }
+    {
+        let Some(date) = Date::of(day) else {
+            return None;
+        };
+        match Month::new(u32::from(date.year), u32::from(date.month)) {
+            Ok(month) => Some(month),
+            Err(_) => None,
+        }
     }
 }

@@ -10,10 +10,11 @@ pub mod season;
 
 pub use book::Book;
 pub use book::Entry;
-pub use date::Date;
 pub use call::Call;
 pub use call::CallEntry;
 pub use call::CallKind;
+pub use call::call_on;
+pub use date::Date;
 pub use date::day_number;
 pub use day::DayKind;
 pub use day::Weekday;

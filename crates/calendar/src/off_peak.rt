@@ -3,8 +3,8 @@ ghost use Prim.Native.Nat.{_≤_};
 
 mod methods;
 
-pub use methods::is_off_peak;
 pub use methods::OffPeakDayEntry;
+pub use methods::is_off_peak;
 
 #[derive(Clone, Copy)]
 pub struct OffPeakDay {

@@ -1,11 +1,12 @@
 // How a call is made, what it says, and which slots it covers.
 ghost use mathlib.Core.Path.{_≡_};
-ghost use Rattle.calendar.specs.Calls.{call-refusal, kind-number, call-key, first-slot, end-slot, covers};
+ghost use Rattle.calendar.specs.Calls.{call-refusal, kind-number, call-key, first-slot, end-slot, covers, call-of-day};
 ghost use Rattle.std.specs.declared.option.Option.the-variants.{Some, None};
 ghost use Rattle.std.specs.declared.result.Result.the-variants.{Ok, Err};
 use super::Call;
 use super::CallKind;
 use crate::book::Entry;
+use crate::book::find_among;
 use crate::date::LAST_DAY;
 use crate::refusal::Refusal;
 
@@ -98,4 +99,14 @@ pub impl Entry for Call as CallEntry {
     fn key(&self) -> u32 {
         8 * self.day + self.kind.number()
     }
+}
+
+// The call of this kind on a day, if one of these is.
+pub fn call_on(calls: &[Call], day: u32, kind: CallKind) -> Option<Call>
+    ensures { λ r. ⌜ r ≡ call-of-day (now (calls .entry)) day kind ⌝ }
+{
+    if day > LAST_DAY {
+        return None;
+    }
+    find_among(calls, 8 * day + kind.number())
 }

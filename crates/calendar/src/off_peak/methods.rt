@@ -4,8 +4,8 @@ ghost use Rattle.calendar.specs.OffPeak.{off-peak-refusal, off-peak-key, off-p
 ghost use Rattle.std.specs.declared.option.Option.the-variants.{Some, None};
 ghost use Rattle.std.specs.declared.result.Result.the-variants.{Ok, Err};
 use super::OffPeakDay;
-use crate::book::find_among;
 use crate::book::Entry;
+use crate::book::find_among;
 use crate::date::LAST_DAY;
 use crate::refusal::Refusal;
 
