@@ -5,11 +5,15 @@ use Prim.Native.Nat.{ℕ, _+_, _-_, _≤_, _<_}
 use native.Mathlib.Numerals.{add-one}
 use native.Mathlib.Omega.{arith}
 use borrow.Rule.Slice.PartMut.{putMid}
+use lib.IntN.{ℤ, pos, negsuc, natAbs}
 use lib.ListN.{length, take, drop, set}
 use lib.Seq.{paste}
+use lib.Signed.{_<ℤ_, _≤ℤ_}
+use Rattle.std.specs.Written.{decimal, signed}
 use Rattle.std.proofs.shelf.Edits.{paste-all, paste-paste}
 use Rattle.std.proofs.shelf.Lists.{length-append, set-split}
 use Rattle.std.proofs.shelf.Parts.{putMid-paste}
+use Rattle.std.proofs.shelf.Signed.{ints}
 use Rattle.bill.specs.PrintWrote.{Room, Wrote}
 
 -- the part that is written first has room
@@ -21,7 +25,7 @@ pub room-then : {xs ys : List ℕ} {a r : ℕ} (bs cs : List ℕ) → Room xs a 
 room-then {xs} {ys} {a} {r} bs cs h e w = record { fits = omega (arith, length-append bs cs, h .fits, w .stops) }
 
 -- two writes, one right behind the other, are one
-pub then-wrote : {xs ys zs bs cs : List ℕ} {a r s : ℕ} → Room xs a bs → Wrote xs a bs r ys → Wrote ys r cs s zs → Wrote xs a (bs ++ cs) s zs
+pub then-wrote : {xs ys zs bs cs : List ℕ} {a r s : ℕ} → Room xs a (bs ++ cs) → Wrote xs a bs r ys → Wrote ys r cs s zs → Wrote xs a (bs ++ cs) s zs
 then-wrote {xs} {ys} {zs} {bs} {cs} {a} {r} {s} h v w =
     let n = length bs in
     let m = length cs in
@@ -54,3 +58,12 @@ room-as {xs} {bs} {cs} {a} e h = subst (λ (l : List ℕ). Room xs a l) e h
 
 pub wrote-as : {xs bs cs ys : List ℕ} {a r : ℕ} → bs ≡ cs → Wrote xs a bs r ys → Wrote xs a cs r ys
 wrote-as {xs} {bs} {cs} {ys} {a} {r} e w = subst (λ (l : List ℕ). Wrote xs a l r ys) e w
+
+-- a number is its digits, with a minus sign in front where it is negative
+pub signed-above : (z : ℤ) (n : ℕ) → pos 0 ≤ℤ z → n ≡ natAbs z → decimal n ≡ signed z
+signed-above (pos k) n h e = ap decimal e
+signed-above (negsuc k) n h e = absurd (omega (arith, ints, h))
+
+pub signed-below : (z : ℤ) (n : ℕ) → z <ℤ pos 0 → n ≡ natAbs z → (45 ∷ decimal n) ≡ signed z
+signed-below (pos k) n h e = absurd (omega (arith, ints, h))
+signed-below (negsuc k) n h e = ap (λ (m : ℕ). 45 ∷ decimal m) e

@@ -35,4 +35,4 @@ returns t c =
     let n = c .args .number in
     let small : n < 2 ^ 64 = omega arith in
     let step : decimal n ≡ decimal (n / 10) ++ last n = decimal-step n (c .if-number-lt10 .left) small in
-    wrote-as (sym step) (then-wrote (room-first (decimal (n / 10)) (last n) (room-as step (c .pre))) (c .put-decimal-last .ensures) (c .put-byte-2 .ensures))
+    wrote-as (sym step) (then-wrote (room-as step (c .pre)) (c .put-decimal-last .ensures) (c .put-byte-2 .ensures))
