@@ -1,2 +1,3 @@
+pub mod PrintRanks
 pub mod PrintText
 pub mod PrintWrote

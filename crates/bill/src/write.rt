@@ -1,16 +1,8 @@
 // Writers into a lent buffer. Each takes where it begins, and answers where it stopped.
-ghost use mathlib.Core.List.{[], _∷_};
+ghost use mathlib.Core.List.{[], _∷_, _++_};
 ghost use Rattle.std.specs.Written.{decimal, signed};
-ghost use Rattle.bill.specs.PrintText.{line, shown};
+ghost use Rattle.bill.specs.PrintText.{line};
 ghost use Rattle.bill.specs.PrintWrote.{Room, Wrote};
-
-// What stands behind a key: text as it is, or a number.
-#[derive(Clone, Copy)]
-pub(crate) enum Value<'a> {
-    Text(&'a [u8]),
-    Number(u64),
-    Signed(i64),
-}
 
 // Writes one byte.
 fn put_byte(buffer: &mut [u8], at: usize, byte: u8) -> usize
@@ -55,25 +47,41 @@ fn put_signed(buffer: &mut [u8], at: usize, number: i64) -> usize
     put_decimal(buffer, digits, number.unsigned_abs())
 }
 
-// Writes a value.
-fn put_value(buffer: &mut [u8], at: usize, value: Value<'_>) -> usize
-    requires { ⌜ Room (now buffer) at (shown value) ⌝ }
-    ensures { λ r. ⌜ Wrote (now (buffer .entry)) at (shown (value .entry)) r (now (buffer .exit)) ⌝ }
-{
-    match value {
-        Value::Text(bytes) => put_bytes(buffer, at, bytes),
-        Value::Number(number) => put_decimal(buffer, at, number),
-        Value::Signed(number) => put_signed(buffer, at, number),
-    }
-}
-
-// Writes a line: the key, an equals sign, the value and a line feed.
-pub(crate) fn put_line(buffer: &mut [u8], at: usize, key: &[u8], value: Value<'_>) -> usize
-    requires { ⌜ Room (now buffer) at (line (now key) (shown value)) ⌝ }
-    ensures { λ r. ⌜ Wrote (now (buffer .entry)) at (line (now (key .entry)) (shown (value .entry))) r (now (buffer .exit)) ⌝ }
+// Writes a key and an equals sign.
+fn put_key(buffer: &mut [u8], at: usize, key: &[u8]) -> usize
+    requires { ⌜ Room (now buffer) at (now key ++ 61 ∷ []) ⌝ }
+    ensures { λ r. ⌜ Wrote (now (buffer .entry)) at (now (key .entry) ++ 61 ∷ []) r (now (buffer .exit)) ⌝ }
 {
     let sign = put_bytes(buffer, at, key);
-    let begin = put_byte(buffer, sign, b'=');
-    let end = put_value(buffer, begin, value);
+    put_byte(buffer, sign, b'=')
+}
+
+// Writes a line whose value is text.
+pub(crate) fn text_line(buffer: &mut [u8], at: usize, key: &[u8], text: &[u8]) -> usize
+    requires { ⌜ Room (now buffer) at (line (now key) (now text)) ⌝ }
+    ensures { λ r. ⌜ Wrote (now (buffer .entry)) at (line (now (key .entry)) (now (text .entry))) r (now (buffer .exit)) ⌝ }
+{
+    let begin = put_key(buffer, at, key);
+    let end = put_bytes(buffer, begin, text);
+    put_byte(buffer, end, b'\n')
+}
+
+// Writes a line whose value is a number.
+pub(crate) fn number_line(buffer: &mut [u8], at: usize, key: &[u8], number: u64) -> usize
+    requires { ⌜ Room (now buffer) at (line (now key) (decimal number)) ⌝ }
+    ensures { λ r. ⌜ Wrote (now (buffer .entry)) at (line (now (key .entry)) (decimal number)) r (now (buffer .exit)) ⌝ }
+{
+    let begin = put_key(buffer, at, key);
+    let end = put_decimal(buffer, begin, number);
+    put_byte(buffer, end, b'\n')
+}
+
+// Writes a line whose value is a signed number.
+pub(crate) fn signed_line(buffer: &mut [u8], at: usize, key: &[u8], number: i64) -> usize
+    requires { ⌜ Room (now buffer) at (line (now key) (signed number)) ⌝ }
+    ensures { λ r. ⌜ Wrote (now (buffer .entry)) at (line (now (key .entry)) (signed number)) r (now (buffer .exit)) ⌝ }
+{
+    let begin = put_key(buffer, at, key);
+    let end = put_signed(buffer, begin, number);
     put_byte(buffer, end, b'\n')
 }
