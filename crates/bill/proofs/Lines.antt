@@ -17,6 +17,7 @@ abbrev ending : List ℕ → List ℕ
 ending value = value ++ (10 ∷ [])
 
 parts : (key value : List ℕ) → opening key ++ ending value ≡ line key value
+unfolding line
 parts key value = append-assoc key (61 ∷ []) (ending value)
 
 -- the three parts have room where the line has

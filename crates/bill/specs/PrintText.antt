@@ -7,7 +7,7 @@ use Rattle.tariffs.specs.declared.rank.ByRank.{ByRank}
 use Rattle.bill.specs.declared.items.Items.{Items}
 
 -- a line is its key, an equals sign, the value and a line feed
-abbrev pub line : List ℕ → List ℕ → List ℕ
+unfoldable pub line : List ℕ → List ℕ → List ℕ
 line key value = key ++ (61 ∷ (value ++ (10 ∷ [])))
 
 -- the meter's code and the serial
