@@ -1,2 +1,3 @@
+pub mod Lengths
 pub mod Lines
 pub mod Writing

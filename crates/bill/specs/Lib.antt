@@ -1,3 +1,3 @@
-pub mod PrintRanks
+pub mod PrintBill
 pub mod PrintText
 pub mod PrintWrote

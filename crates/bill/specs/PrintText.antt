@@ -5,6 +5,7 @@ use lib.Chars.{codes}
 use Rattle.std.specs.Written.{decimal, signed}
 use Rattle.tariffs.specs.declared.rank.ByRank.{ByRank}
 use Rattle.bill.specs.declared.items.Items.{Items}
+use Rattle.bill.specs.declared.print.RankKeys.{RankKeys}
 
 -- a line is its key, an equals sign, the value and a line feed
 unfoldable pub line : List ℕ → List ℕ → List ℕ
@@ -20,6 +21,10 @@ pub record ByRankKeys : Type 0 where
   pub semi-peak : List ℕ
   pub saturday : List ℕ
   pub off-peak : List ℕ
+
+-- the keys that a writer is given, as their bytes
+abbrev pub rank-keys : RankKeys → ByRankKeys
+rank-keys k = record { peak = k .peak .now; semi-peak = k .«semi_peak» .now; saturday = k .saturday .now; off-peak = k .«off_peak» .now }
 
 -- a line for each rank, from the dearest to the cheapest
 abbrev pub rank-lines : ByRankKeys → ByRank → List ℕ

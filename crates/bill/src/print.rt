@@ -1,6 +1,5 @@
 // The lines of a bill, written into a lent buffer.
-ghost use Rattle.bill.specs.PrintRanks.{rank-keys};
-ghost use Rattle.bill.specs.PrintText.{head-lines, rank-lines, energy-lines, excess-lines, closing-lines, rendered};
+ghost use Rattle.bill.specs.PrintText.{head-lines, rank-keys, rank-lines, energy-lines, excess-lines, closing-lines, rendered};
 ghost use Rattle.bill.specs.PrintWrote.{Room, Wrote};
 use crate::items::Items;
 use crate::keys::*;
