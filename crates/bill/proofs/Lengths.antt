@@ -1,5 +1,5 @@
 -- How long a printed bill gets. Assumes nothing.
-use mathlib.Core.Path.{_≡_, ap, _∙_}
+use mathlib.Core.Path.{_≡_, refl}
 use mathlib.Core.List.{List, [], _∷_, _++_}
 use Prim.Native.Nat.{ℕ, _+_, _^_, _≤_, _<_}
 use native.Mathlib.Omega.{arith}
@@ -70,3 +70,28 @@ ranks-short k four e f g h fit =
     (both-short 14 14 (line (k .saturday) (decimal (four .saturday))) (line (k .off-peak) (decimal (four .«off_peak»)))
     (omega (arith, line-u32 (k .saturday) (four .saturday) (fit .saturday)))
     (omega (arith, line-u32 (k .off-peak) (four .«off_peak») (fit .off-peak)))))
+
+energies-short : (i : Items) → ItemsFit i → length (energy-lines i) ≤ 111
+energies-short i fit =
+    both-short 56 55 (rank-lines energy-keys (i .energies)) _ (ranks-short energy-keys (i .energies) refl refl refl refl (fit .energies))
+    (both-short 28 27 (line (codes "energy") (decimal (i .energy))) (line (codes "basic") (decimal (i .basic)))
+    (line-u64 (codes "energy") (i .energy) (fit .energy))
+    (line-u64 (codes "basic") (i .basic) (fit .basic)))
+
+excess-short : (i : Items) → ItemsFit i → length (excess-lines i) ≤ 84
+excess-short i fit =
+    both-short 56 28 (rank-lines excess-keys (i .«excess_lines»)) (line (codes "excess") (decimal (i .excess)))
+    (ranks-short excess-keys (i .«excess_lines») refl refl refl refl (fit .excess-lines))
+    (line-u64 (codes "excess") (i .excess) (fit .excess))
+
+closing-short : (i : Items) → ItemsFit i → length (closing-lines i) ≤ 80
+closing-short i fit =
+    both-short 28 52 (line (codes "credit") (decimal (i .credit))) _ (line-u64 (codes "credit") (i .credit) (fit .credit))
+    (both-short 27 25 (line (codes "extra") (decimal (i .extra))) (line (codes "due") (signed (i .due)))
+    (line-u64 (codes "extra") (i .extra) (fit .extra))
+    (line-i64 (codes "due") (i .due) (fit .due)))
+
+-- 512 bytes suffice for every bill: the longest takes 323
+pub bill-short : (serial : ℕ) (code : List ℕ) (i : Items) → serial < 2 ^ 32 → length code ≤ 24 → ItemsFit i → length (rendered serial code i) ≤ 512
+bill-short serial code i h k fit =
+    omega (arith, both-short 48 275 (head-lines serial code) _ (head-short serial code h k) (both-short 111 164 (energy-lines i) _ (energies-short i fit) (both-short 84 80 (excess-lines i) (closing-lines i) (excess-short i fit) (closing-short i fit))))
