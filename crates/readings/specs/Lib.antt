@@ -1,2 +1,4 @@
 pub mod CodeBytes
 pub mod Codes
+pub mod Sheets
+pub mod SheetModels
