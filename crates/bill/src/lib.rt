@@ -9,3 +9,6 @@ mod write;
 pub use draft::Draft;
 pub use issued::Issued;
 pub use items::Items;
+
+#[cfg(test)]
+mod tests;
