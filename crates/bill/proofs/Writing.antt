@@ -2,7 +2,6 @@
 use mathlib.Core.Path.{_≡_, refl, ap, sym, subst, _∙_}
 use mathlib.Core.List.{List, [], _∷_, _++_}
 use Prim.Native.Nat.{ℕ, _+_, _-_, _≤_, _<_}
-use native.Mathlib.Nat.{zero-add}
 use native.Mathlib.Numerals.{add-one}
 use native.Mathlib.Omega.{arith}
 use borrow.Rule.Slice.PartMut.{putMid}
@@ -68,8 +67,3 @@ signed-above (negsuc k) n h e = absurd (omega (arith, ints, h))
 pub signed-below : (z : ℤ) (n : ℕ) → z <ℤ pos 0 → n ≡ natAbs z → (45 ∷ decimal n) ≡ signed z
 signed-below (pos k) n h e = absurd (omega (arith, ints, h))
 signed-below (negsuc k) n h e = ap (λ (m : ℕ). 45 ∷ decimal m) e
-
--- what was written from the start on stands in front of what the buffer held behind it
-pub wrote-front : {xs bs ys : List ℕ} {r : ℕ} → Wrote xs 0 bs r ys → (r ≡ length bs) × (ys ≡ bs ++ drop (length bs) xs)
-wrote-front {xs} {bs} {ys} {r} w =
-    (w .stops ∙ zero-add (length bs), w .holds ∙ ap (λ (k : ℕ). bs ++ drop k xs) (zero-add (length bs)))
