@@ -62,3 +62,86 @@ fn summer_is_june_to_september() -> Result<(), Fail> {
     check_eq(month(2024, 9)?.season(), Season::Summer)?;
     check_eq(month(2024, 10)?.season(), Season::OtherMonths)
 }
+
+fn call_refusal(day: u32, kind: u32, start: u32, hours: u32) -> Option<Refusal> {
+    Call::new(day, kind, start, hours).err()
+}
+
+#[test]
+fn calls_start_from_4_to_22_and_end_by_24() -> Result<(), Fail> {
+    check_eq(call_refusal(36_525, 3, 3, 1), Some(Refusal::DayOutOfRange))?;
+    check_eq(
+        call_refusal(36_524, 3, 3, 1),
+        Some(Refusal::UnknownCallKind),
+    )?;
+    check_eq(
+        call_refusal(36_524, 1, 3, 2),
+        Some(Refusal::CallHoursOutOfRange),
+    )?;
+    check_eq(call_refusal(36_524, 1, 4, 2), None)?;
+    check_eq(call_refusal(36_524, 2, 22, 2), None)?;
+    check_eq(
+        call_refusal(36_524, 2, 23, 2),
+        Some(Refusal::CallHoursOutOfRange),
+    )?;
+    check_eq(
+        call_refusal(9, 1, 10, 1),
+        Some(Refusal::CallHoursOutOfRange),
+    )?;
+    check_eq(call_refusal(9, 1, 10, 6), None)?;
+    check_eq(
+        call_refusal(9, 1, 10, 7),
+        Some(Refusal::CallHoursOutOfRange),
+    )?;
+    check_eq(
+        call_refusal(9, 1, 20, 5),
+        Some(Refusal::CallHoursOutOfRange),
+    )
+}
+
+#[test]
+fn a_call_covers_its_quarter_hours() -> Result<(), Fail> {
+    let call = Call::new(9, 2, 20, 4)?;
+    check_eq(call.covers(79), false)?;
+    check_eq(call.covers(80), true)?;
+    check_eq(call.covers(95), true)?;
+    check_eq(call.covers(96), false)?;
+    check_eq(call.key(), 74)
+}
+
+#[test]
+fn a_full_book_names_a_present_key_first() -> Result<(), Fail> {
+    let first = OffPeakDay::new(5)?;
+    let second = OffPeakDay::new(3)?;
+    let third = OffPeakDay::new(4)?;
+    let mut places = [first; 2];
+    let mut book = Book::open(&mut places);
+    check_eq(book.add(first).err(), None)?;
+    check_eq(book.add(second).err(), None)?;
+    check_eq(book.add(first).err(), Some(Refusal::KeyAlreadyBooked))?;
+    check_eq(book.add(third).err(), Some(Refusal::BookFull))?;
+    check_eq(is_off_peak(book.entries(), 3), true)?;
+    check_eq(is_off_peak(book.entries(), 4), false)
+}
+
+#[test]
+fn the_order_of_bookings_does_not_matter() -> Result<(), Fail> {
+    let a = OffPeakDay::new(7)?;
+    let b = OffPeakDay::new(8)?;
+    let c = OffPeakDay::new(9)?;
+    let mut left = [a; 3];
+    let mut right = [a; 3];
+    let mut one = Book::open(&mut left);
+    let mut other = Book::open(&mut right);
+    one.add(a)?;
+    one.add(b)?;
+    one.add(c)?;
+    other.add(c)?;
+    other.add(a)?;
+    other.add(b)?;
+    check_eq(one.entries().len(), 3)?;
+    for (x, y) in one.entries().iter().zip(other.entries()) {
+        check_eq(x.day(), y.day())?;
+    }
+    Ok(())
+}

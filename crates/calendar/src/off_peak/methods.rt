@@ -33,7 +33,7 @@ pub impl Entry for OffPeakDay as OffPeakDayEntry {
     ghost keyed = { off-peak-key };
 
     fn key(&self) -> u32 {
-        self.day
+        OffPeakDay::day(self)
     }
 }
 
