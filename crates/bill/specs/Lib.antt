@@ -1,4 +1,5 @@
 pub mod Drafts
+pub mod Figures
 pub mod PrintBill
 pub mod PrintText
 pub mod PrintWrote
