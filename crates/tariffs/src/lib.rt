@@ -1,6 +1,7 @@
 // Tariffs: which rank a slot has, what energy costs, and the household price; for contracts also what capacities allow and cost.
 pub mod capacities;
 pub mod contract;
+pub mod excess;
 pub mod h3;
 pub mod l2;
 mod prices;
@@ -10,6 +11,9 @@ pub mod tariff;
 
 pub use capacities::Capacities;
 pub use contract::ContractTariff;
+pub use excess::excess_charge;
+pub use excess::excess_lines;
+pub use excess::tenth;
 pub use h3::H3;
 pub use h3::H3Contract;
 pub use h3::H3Tariff;
