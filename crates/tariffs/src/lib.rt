@@ -25,3 +25,6 @@ pub use rank::Rank;
 pub use s3::S3;
 pub use s3::S3Tariff;
 pub use tariff::Tariff;
+
+#[cfg(test)]
+mod tests;

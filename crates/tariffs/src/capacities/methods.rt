@@ -47,7 +47,7 @@ impl Capacities {
     }
 
     // The semi-peak capacity, non-summer under L2.
-    pub fn semi_peak(&self) -> u32
+    pub(crate) fn semi_peak(&self) -> u32
         ensures { λ r. ⌜ r ≡ now (self .entry) .«semi_peak» ⌝ }
     {
         self.semi_peak
