@@ -1,3 +1,9 @@
+pub mod Capacities
+pub mod Contract
+pub mod Excess
+pub mod H3
+pub mod L2
 pub mod Meaning
+pub mod Prices
 pub mod Ranks
 pub mod S3
