@@ -1,3 +1,4 @@
+pub mod ContractQuotes
 pub mod Drafts
 pub mod Figures
 pub mod PrintBill

@@ -1,4 +1,5 @@
 // The bill of a month: the quote, the draft that it gives, the issued bill and its print.
+pub mod contract;
 pub mod draft;
 pub mod issued;
 pub mod items;
@@ -8,6 +9,7 @@ pub mod quote;
 mod totals;
 mod write;
 
+pub use contract::contract_basic;
 pub use draft::Draft;
 pub use issued::Issued;
 pub use items::Items;
