@@ -1,5 +1,6 @@
 pub mod ContractQuotes
 pub mod Drafts
+pub mod ExcessQuotes
 pub mod Figures
 pub mod PrintBill
 pub mod PrintText

@@ -9,7 +9,9 @@ pub mod quote;
 mod totals;
 mod write;
 
+pub use contract::Excess;
 pub use contract::contract_basic;
+pub use contract::month_excess;
 pub use draft::Draft;
 pub use issued::Issued;
 pub use items::Items;
