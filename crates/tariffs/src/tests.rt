@@ -82,7 +82,12 @@ fn stretches_of_s3() -> Result<(), Fail> {
 fn stretches_of_contract_tariffs() -> Result<(), Fail> {
     check_edges(&H3, Season::Summer, DayKind::Working, &H3_SUMMER)?;
     check_edges(&H3, Season::OtherMonths, DayKind::Working, &H3_OTHER_MONTHS)?;
-    check_edges(&H3, Season::OtherMonths, DayKind::Saturday, &CONTRACT_SATURDAY)?;
+    check_edges(
+        &H3,
+        Season::OtherMonths,
+        DayKind::Saturday,
+        &CONTRACT_SATURDAY,
+    )?;
     check_edges(&H3, Season::Summer, DayKind::Sunday, &OFF_PEAK)?;
     check_edges(&L2, Season::Summer, DayKind::Working, &L2_WORKING)?;
     check_edges(&L2, Season::OtherMonths, DayKind::Working, &L2_WORKING)?;
@@ -92,8 +97,14 @@ fn stretches_of_contract_tariffs() -> Result<(), Fail> {
 
 #[test]
 fn capacities_are_granted_up_to_40_000() -> Result<(), Fail> {
-    check_eq(Capacities::new(0, 40_000, 1, 0).err(), Some(Refusal::NoRegularCapacity))?;
-    check_eq(Capacities::new(1, 39_999, 0, 1).err(), Some(Refusal::CapacityAboveLimit))?;
+    check_eq(
+        Capacities::new(0, 40_000, 1, 0).err(),
+        Some(Refusal::NoRegularCapacity),
+    )?;
+    check_eq(
+        Capacities::new(1, 39_999, 0, 1).err(),
+        Some(Refusal::CapacityAboveLimit),
+    )?;
     check_eq(Capacities::new(1, 39_998, 0, 1)?.regular(), 1)
 }
 
@@ -109,8 +120,14 @@ fn by_rank(peak: u32, semi_peak: u32, saturday: u32, off_peak: u32) -> ByRank {
 #[test]
 fn capacities_allow_and_cost() -> Result<(), Fail> {
     let stacked = Capacities::new(10, 10, 5, 5)?;
-    check_eq(L2.allowances(Season::Summer, stacked), by_rank(10, 20, 25, 30))?;
-    check_eq(L2.allowances(Season::OtherMonths, stacked), by_rank(20, 20, 25, 30))?;
+    check_eq(
+        L2.allowances(Season::Summer, stacked),
+        by_rank(10, 20, 25, 30),
+    )?;
+    check_eq(
+        L2.allowances(Season::OtherMonths, stacked),
+        by_rank(20, 20, 25, 30),
+    )?;
     let small = Capacities::new(10, 0, 10, 5)?;
     check_eq(L2.capacity_charge(Season::Summer, small), 1_133_600)?;
     check_eq(4 * u64::from(L2.household_price()), 105_000)
