@@ -1,2 +1,5 @@
 pub mod Full
 pub mod Gathered
+pub mod Lengths
+pub mod Lines
+pub mod Writing
