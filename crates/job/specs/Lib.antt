@@ -1,0 +1,4 @@
+pub mod LineParts
+pub mod Lines
+pub mod Texts
+pub mod Values
