@@ -1,4 +1,6 @@
 pub mod LineParts
 pub mod Lines
+pub mod Says
+pub mod Statements
 pub mod Texts
 pub mod Values

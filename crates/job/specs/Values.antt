@@ -1,5 +1,5 @@
 -- The forms of the values of a job's lines. Assumes nothing.
-use mathlib.Core.Bool.{cond, _&&_}
+use mathlib.Core.Bool.{Bool, true, false, cond, _&&_}
 use mathlib.Core.List.{List}
 use Prim.Native.Nat.{ℕ, _+_, _*_}
 use lib.Chars.{codes}
@@ -38,15 +38,19 @@ abbrev pub month-of : List ℕ → Option (ℕ × ℕ)
 month-of bs =
     cond (eqb (length bs) 7 && eqb (getD bs 4 0) 45) (both (year-in bs) (two-digits (getD bs 5 0) (getD bs 6 0))) None
 
--- a date is four digits, a hyphen, two digits, a hyphen and two digits, and 2000 to 2099 have it
-abbrev pub date-of : List ℕ → Option ℕ
-date-of bs =
+-- a date is four digits, a hyphen, two digits, a hyphen and two digits
+abbrev pub date-parts : List ℕ → Option (ℕ × ℕ × ℕ)
+date-parts bs =
     cond (eqb (length bs) 10 && (eqb (getD bs 4 0) 45 && eqb (getD bs 7 0) 45))
     (elim (year-in bs) [
       None ↦ None
-    | Some y ↦ elim (both (two-digits (getD bs 5 0) (getD bs 6 0)) (two-digits (getD bs 8 0) (getD bs 9 0))) [ None ↦ None | Some p ↦ date-day y (p .0) (p .1) ]
+    | Some y ↦ elim (both (two-digits (getD bs 5 0) (getD bs 6 0)) (two-digits (getD bs 8 0) (getD bs 9 0))) [ None ↦ None | Some p ↦ Some (y, p .0, p .1) ]
     ])
     None
+
+-- and 2000 to 2099 have it
+abbrev pub date-of : List ℕ → Option ℕ
+date-of bs = elim (date-parts bs) [ None ↦ None | Some p ↦ date-day (p .0) (p .1) (p .2) ]
 
 -- a tariff is one of three names
 abbrev pub tariff-of : List ℕ → Option TariffName
@@ -65,3 +69,7 @@ programme-of bs =
       None ↦ None
     | Some p ↦ cond (sameBytes (p .0) (codes "bid")) (elim (pair-of (p .1)) [ None ↦ None | Some q ↦ Some (Bid (q .0) (q .1)) ]) None
     ])
+
+-- a flag is one byte, 0 or 1
+abbrev pub flexible-of : List ℕ → Option Bool
+flexible-of bs = cond (sameBytes bs (codes "0")) (Some false) (cond (sameBytes bs (codes "1")) (Some true) None)
