@@ -1,4 +1,5 @@
 pub mod CodeBytes
 pub mod Codes
+pub mod Runs
 pub mod Sheets
 pub mod SheetModels
