@@ -1,1 +1,3 @@
 pub mod Cuts
+pub mod JobSteps
+pub mod LinesCut

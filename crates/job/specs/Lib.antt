@@ -1,3 +1,5 @@
+pub mod JobLines
+pub mod Jobs
 pub mod LineParts
 pub mod Lines
 pub mod Says

@@ -25,6 +25,19 @@ pub data Says : Type 0 where
   call-on : ℕ → ℕ → ℕ → ℕ → Says
   run-of : ℕ → ℕ → Says
 
+-- the place of each of the six lines that a job begins with; the other four stand behind them
+abbrev pub place-of : Says → ℕ
+place-of (code bytes) = 1
+place-of (month y m) = 2
+place-of (tariff t) = 3
+place-of (capacities r s w o) = 4
+place-of (programme p) = 5
+place-of (flexible b) = 6
+place-of (lead n d) = 7
+place-of (off-peak d) = 7
+place-of (call-on d k s h) = 7
+place-of (run-of n d) = 7
+
 -- four numbers
 abbrev pub capacities-said : List ℕ → Option Says
 capacities-said value =
