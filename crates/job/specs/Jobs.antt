@@ -93,9 +93,14 @@ and-then (Err e) next = Err e
 abbrev pub job-print : List ℕ → ℕ → ℕ → Result (List ℕ) Stop
 job-print text room print-room = and-then (job-sheet text room) (λ s. and-then (bill-of s) (fitting print-room))
 
+-- how many bytes are printed
+abbrev pub printed-bytes : Result (List ℕ) Stop → Result ℕ Stop
+printed-bytes (Ok print) = Ok (length print)
+printed-bytes (Err e) = Err e
+
 -- the outcome
-abbrev pub outcome-of : Result (List ℕ) Stop → Outcome
-outcome-of (Ok print) = outcome.Printed (length print)
+abbrev pub outcome-of : Result ℕ Stop → Outcome
+outcome-of (Ok count) = outcome.Printed count
 outcome-of (Err (stop.Refused e n)) = outcome.Refused e n
 outcome-of (Err (stop.Unsupported n)) = outcome.Unsupported n
 
