@@ -2,7 +2,7 @@
 use mathlib.Core.Path.{_≡_}
 use mathlib.Core.Bool.{Bool, cond}
 use mathlib.Core.List.{List, [], _∷_, _++_}
-use Prim.Native.Nat.{ℕ, suc, min}
+use Prim.Native.Nat.{ℕ, suc, min, _≤_}
 use lib.Dec.{eqb, leb, ltb}
 use lib.ListN.{length, drop}
 use Rattle.std.specs.declared.option.Option.{Option}
@@ -108,6 +108,12 @@ outcome-of (Err (stop.Unsupported n)) = outcome.Unsupported n
 abbrev pub buffer-after : Result (List ℕ) Stop → List ℕ → List ℕ
 buffer-after (Ok print) held = print ++ drop (length print) held
 buffer-after (Err e) held = held
+
+-- a print keeps within a buffer of so many bytes
+abbrev pub print-within : Outcome → ℕ → Type 0
+print-within (outcome.Printed count) room = count ≤ room
+print-within (outcome.Refused e n) room = Unit {0}
+print-within (outcome.Unsupported n) room = Unit {0}
 
 -- a job stops so, from line n with these lines on, whatever the sheet
 abbrev pub Stops : ℕ → List (Option Says) → Stop → Type 0

@@ -2,7 +2,7 @@
 ghost use mathlib.Core.Path.{_≡_};
 ghost use lib.ListN.{length};
 ghost use Rattle.readings.specs.SheetModels.{sheet-model};
-ghost use Rattle.job.specs.Jobs.{and-then, bill-of, fitting, printed-bytes, buffer-after, job-print, outcome-of};
+ghost use Rattle.job.specs.Jobs.{and-then, bill-of, fitting, printed-bytes, buffer-after, job-print, outcome-of, print-within};
 use crate::body::body;
 use crate::header::code_line;
 use crate::header::month_line;
@@ -73,6 +73,7 @@ fn print_job(text: &[u8], storage: &mut [u32], buffer: &mut [u8]) -> Result<usiz
 pub fn run_job(text: &[u8], storage: &mut [u32], buffer: &mut [u8]) -> Outcome
     ensures answer { λ r. ⌜ r ≡ outcome-of (printed-bytes (job-print (now (text .entry)) (length (now (storage .entry))) (length (now (buffer .entry))))) ⌝ }
     ensures written { λ _. ⌜ now (buffer .exit) ≡ buffer-after (job-print (now (text .entry)) (length (now (storage .entry))) (length (now (buffer .entry)))) (now (buffer .entry)) ⌝ }
+    ensures within { λ r. ⌜ print-within r (length (now (buffer .entry))) ⌝ }
 {
     match print_job(text, storage, buffer) {
         Ok(count) => Outcome::Printed(count),
