@@ -8,7 +8,7 @@ use borrow.Rule.Slice.PartMut.{putMid}
 use lib.IntN.{ℤ, pos, negsuc, natAbs}
 use lib.ListN.{length, take, drop, set}
 use lib.Seq.{paste}
-use lib.Signed.{_<ℤ_, _≤ℤ_}
+use lib.Signed.{_<ℤ_}
 use Rattle.std.specs.Written.{decimal, signed}
 use Rattle.std.proofs.shelf.Edits.{paste-all, paste-paste}
 use Rattle.std.proofs.shelf.Lists.{length-append, set-split}
@@ -59,11 +59,7 @@ room-as {xs} {bs} {cs} {a} e h = subst (λ (l : List ℕ). Room xs a l) e h
 pub wrote-as : {xs bs cs ys : List ℕ} {a r : ℕ} → bs ≡ cs → Wrote xs a bs r ys → Wrote xs a cs r ys
 wrote-as {xs} {bs} {cs} {ys} {a} {r} e w = subst (λ (l : List ℕ). Wrote xs a l r ys) e w
 
--- a number is its digits, with a minus sign in front where it is negative
-pub signed-above : (z : ℤ) (n : ℕ) → pos 0 ≤ℤ z → n ≡ natAbs z → decimal n ≡ signed z
-signed-above (pos k) n h e = ap decimal e
-signed-above (negsuc k) n h e = absurd (omega (arith, ints, h))
-
+-- a negative number is its digits, with a minus sign in front
 pub signed-below : (z : ℤ) (n : ℕ) → z <ℤ pos 0 → n ≡ natAbs z → (45 ∷ decimal n) ≡ signed z
 signed-below (pos k) n h e = absurd (omega (arith, ints, h))
 signed-below (negsuc k) n h e = ap (λ (m : ℕ). 45 ∷ decimal m) e

@@ -5,15 +5,22 @@ ghost use Prim.Native.Nat.{_<_, _≤_};
 ghost use lib.ListN.{length, drop};
 ghost use Rattle.calendar.specs.declared.refusal.Refusal.the-variants.{PrintBufferTooShort};
 ghost use Rattle.std.specs.declared.result.Result.the-variants.{Ok, Err};
+ghost use Rattle.readings.specs.CodeBytes.{code-bytes};
 ghost use Rattle.bill.specs.PrintBill.{bill-text};
+ghost use Rattle.bill.specs.PrintText.{rendered};
 use crate::draft::Draft;
 use crate::items::Items;
 use crate::print::put_bill;
 use calendar::Refusal;
 use readings::MeterCode;
 
-// How many bytes a print may take.
-const PRINT_ROOM: usize = 512;
+// The bytes that suffice for the print of a bill, whatever it says.
+fn print_room(serial: u32, code: MeterCode, items: Items) -> usize
+    ensures value { λ r. ⌜ r ≡ 512 ⌝ }
+    ensures suffices { λ _. ⌜ length (rendered serial (code-bytes code) items) ≤ 512 ⌝ }
+{
+    512
+}
 
 // An issued bill. Printing uses it up.
 #[derive(Drop)]
@@ -65,7 +72,8 @@ impl Issued {
         ensures written { λ r. ⌜ elim r [ Ok n ↦ now (buffer .exit) ≡ bill-text self ++ drop (length (bill-text self)) (now (buffer .entry)) | Err e ↦ now (buffer .exit) ≡ now (buffer .entry) ] ⌝ }
         ensures suffices { λ _. ⌜ length (bill-text self) ≤ 512 ⌝ }
     {
-        if buffer.len() < PRINT_ROOM {
+        let room = print_room(self.serial, self.code, self.items);
+        if buffer.len() < room {
             return Err((self, Refusal::PrintBufferTooShort));
         }
         Ok(put_bill(buffer, self.serial, self.code.as_bytes(), self.items))

@@ -1,4 +1,4 @@
-// The bill of a month: quote, draft, issued bill and print.
+// The bill of a month: the quote, the draft that it gives, the issued bill and its print.
 pub mod draft;
 pub mod issued;
 pub mod items;
@@ -12,3 +12,6 @@ pub use draft::Draft;
 pub use issued::Issued;
 pub use items::Items;
 pub use quote::plain_quote;
+
+#[cfg(test)]
+mod tests;

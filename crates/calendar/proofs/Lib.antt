@@ -1,2 +1,5 @@
-pub mod OffPeak
+pub mod Books
+pub mod Calls
+pub mod Laws
+pub mod Rising
 pub mod Years

@@ -5,7 +5,7 @@ use Prim.Native.Nat.{ℕ, zero, suc, _+_, _-_, _*_, _/_, _≤_, _<_}
 use native.Mathlib.Omega.{arith}
 use lib.Dec.{eqb}
 use Rattle.std.proofs.shelf.Ways.{decides-below-and, decides-eqb}
-use Rattle.calendar.specs.Gregorian.{days-in-years, days-in-months, month-length}
+use Rattle.calendar.specs.Gregorian.{leap, days-in-years, days-in-months, month-length}
 
 -- a test passes at each number below n
 abbrev passes-below : (ℕ → Bool) → ℕ → Bool
@@ -28,3 +28,10 @@ years-closed =
 pub months-more : (b : Bool) (m : ℕ) → 1 ≤ m → days-in-months b (m - 1) + month-length b m ≡ days-in-months b m
 months-more b (suc m) h = ap (λ k. days-in-months b k + month-length b (suc m)) (omega arith)
 months-more b zero h = absurd (omega arith)
+
+-- one year more
+pub years-more : (y : ℕ) → 2000 ≤ y → days-in-years (y - 2000) + days-in-months (leap y) 12 ≡ days-in-years (y + 1 - 2000)
+years-more y h =
+    let back : y ≡ 2000 + (y - 2000) = omega arith in
+    let next : suc (y - 2000) ≡ y + 1 - 2000 = omega arith in
+    ap (λ z. days-in-years (y - 2000) + days-in-months (leap z) 12) back ∙ ap days-in-years next

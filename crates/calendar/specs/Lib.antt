@@ -1,3 +1,7 @@
+pub mod BookModels
+pub mod Books
+pub mod CalendarLaws
+pub mod Calls
 pub mod Dates
 pub mod Days
 pub mod Gregorian

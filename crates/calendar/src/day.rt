@@ -1,5 +1,6 @@
 // The weekday and the kind of a day. A day is counted from 1 January 2000, which is day 0.
 ghost use mathlib.Core.Path.{_≡_};
+ghost use Rattle.calendar.specs.CalendarLaws.{Goes-round};
 ghost use Rattle.calendar.specs.Days.{weekday-of, kind-of};
 
 #[derive(Clone, Copy, PartialEq, Eq, Debug)]
@@ -25,7 +26,8 @@ pub enum DayKind {
 impl Weekday {
     // The weekday of a day: day 0 is a Saturday.
     pub fn of(day: u32) -> Weekday
-        ensures { λ r. ⌜ r ≡ weekday-of day ⌝ }
+        ensures value { λ r. ⌜ r ≡ weekday-of day ⌝ }
+        ensures goes_round { λ _. ⌜ Goes-round day ⌝ }
     {
         match day % 7 {
             0 => Weekday::Saturday,

@@ -3,6 +3,7 @@ ghost use Prim.Native.Nat.{_≤_};
 
 mod methods;
 
+pub use methods::OffPeakDayEntry;
 pub use methods::is_off_peak;
 
 #[derive(Clone, Copy)]

@@ -1,5 +1,6 @@
 // What a month answers: its first day, its length, its season.
 ghost use mathlib.Core.Path.{_≡_};
+ghost use Rattle.calendar.specs.CalendarLaws.{Abuts};
 ghost use Rattle.calendar.specs.Gregorian.{leap, month-length, days-in-years, days-in-months, first-day-of, length-of, season-of, month-refusal};
 ghost use Rattle.std.specs.declared.option.Option.the-variants.{Some, None};
 ghost use Rattle.std.specs.declared.result.Result.the-variants.{Ok, Err};
@@ -73,6 +74,7 @@ impl Month {
     pub fn first_day(&self) -> u32
         ensures value { λ r. ⌜ r ≡ first-day-of (now (self .entry) .year) (now (self .entry) .month) ⌝ }
         ensures small { λ r. ⌜ r < 2 ^ 16 ⌝ }
+        ensures abuts { λ _. ⌜ Abuts (now (self .entry) .year) (now (self .entry) .month) ⌝ }
     {
         days_before_year(self.year) + u32::from(days_before_month(is_leap(self.year), self.month))
     }

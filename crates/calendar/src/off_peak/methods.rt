@@ -1,13 +1,13 @@
 // How an off-peak day is made, and whether a day is among those that are booked.
 ghost use mathlib.Core.Path.{_≡_};
-ghost use Rattle.calendar.specs.OffPeak.{off-peak-refusal, off-peak-among};
+ghost use Rattle.calendar.specs.OffPeak.{off-peak-refusal, off-peak-key, off-peak-among};
 ghost use Rattle.std.specs.declared.option.Option.the-variants.{Some, None};
 ghost use Rattle.std.specs.declared.result.Result.the-variants.{Ok, Err};
 use super::OffPeakDay;
+use crate::book::Entry;
+use crate::book::find_among;
+use crate::date::LAST_DAY;
 use crate::refusal::Refusal;
-
-// The last day of the calendar, 31 December 2099.
-const LAST_DAY: u32 = 36_524;
 
 impl OffPeakDay {
     // This day as an off-peak day.
@@ -28,14 +28,18 @@ impl OffPeakDay {
     }
 }
 
+// An off-peak day is booked under its day.
+pub impl Entry for OffPeakDay as OffPeakDayEntry {
+    ghost keyed = { off-peak-key };
+
+    fn key(&self) -> u32 {
+        OffPeakDay::day(self)
+    }
+}
+
 // Whether a day is one of these.
 pub fn is_off_peak(days: &[OffPeakDay], day: u32) -> bool
     ensures { λ r. ⌜ r ≡ off-peak-among (now (days .entry)) day ⌝ }
 {
-    for booked in days {
-        if booked.day == day {
-            return true;
-        }
-    }
-    false
+    find_among(days, day).is_some()
 }

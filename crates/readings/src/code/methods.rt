@@ -25,6 +25,13 @@ fn is_printable(text: &[u8]) -> bool
     true
 }
 
+// Whether two texts are equal, compared over their whole length.
+fn same_bytes(one: &[u8], other: &[u8]) -> bool
+    ensures { λ r. ⌜ r ≡ sameBytes (now (one .entry)) (now (other .entry)) ⌝ }
+{
+    one == other
+}
+
 impl MeterCode {
     // The code of these bytes, all of them.
     pub fn new(text: &[u8]) -> Result<MeterCode, Refusal>
@@ -51,6 +58,6 @@ impl MeterCode {
     pub fn is(&self, text: &[u8]) -> bool
         ensures { λ r. ⌜ r ≡ sameBytes (code-bytes (now (self .entry))) (now (text .entry)) ⌝ }
     {
-        self.as_bytes() == text
+        same_bytes(self.as_bytes(), text)
     }
 }
