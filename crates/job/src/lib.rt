@@ -6,8 +6,11 @@ pub mod keys;
 pub mod line;
 pub mod outcome;
 pub mod statement;
-pub mod text;
+mod text;
 
 pub use job::LONGEST_TEXT;
 pub use job::run_job;
 pub use outcome::Outcome;
+
+#[cfg(test)]
+mod tests;
