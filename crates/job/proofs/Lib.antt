@@ -1,0 +1,4 @@
+pub mod Cuts
+pub mod JobRuns
+pub mod JobSteps
+pub mod LinesCut

@@ -1,0 +1,124 @@
+-- What a job comes to. Assumes nothing.
+use mathlib.Core.Path.{_≡_}
+use mathlib.Core.Bool.{Bool, cond}
+use mathlib.Core.List.{List, [], _∷_, _++_}
+use Prim.Native.Nat.{ℕ, suc, min, _≤_}
+use lib.Dec.{eqb, leb, ltb}
+use lib.ListN.{length, drop}
+use Rattle.std.specs.declared.option.Option.{Option}
+use Rattle.std.specs.declared.option.Option.the-variants.{Some, None}
+use Rattle.std.specs.declared.result.Result.{Result}
+use Rattle.std.specs.declared.result.Result.the-variants.{Ok, Err}
+use Rattle.calendar.specs.Gregorian.{month-refusal}
+use Rattle.calendar.specs.declared.refusal.Refusal.{Refusal}
+use Rattle.calendar.specs.declared.refusal.Refusal.the-variants.{JobTextTooLong, MalformedLine, LineOutOfOrder, JobIncomplete, PrintBufferTooShort}
+use Rattle.readings.specs.Codes.{code-refusal}
+use Rattle.readings.specs.Runs.{run-answer, after-run}
+use Rattle.readings.specs.Sheets.{SheetModel, opened}
+use Rattle.tariffs.specs.S3.{s3-meaning}
+use Rattle.bill.specs.PrintText.{rendered}
+use Rattle.bill.specs.Quotes.{plain-quote-in}
+use Rattle.job.specs.declared.statement.TariffName.{TariffName}
+use Rattle.job.specs.declared.statement.TariffName.the-variants.{H3, L2, S3}
+use Rattle.job.specs.declared.outcome.Stop.{Stop}
+use Rattle.job.specs.declared.outcome.Stop.the-variants as stop
+use Rattle.job.specs.declared.outcome.Outcome.{Outcome}
+use Rattle.job.specs.declared.outcome.Outcome.the-variants as outcome
+use Rattle.job.specs.JobLines.{said}
+use Rattle.job.specs.Statements.{Says, place-of, code, month, tariff, capacities, programme, flexible, lead, off-peak, call-on, run-of}
+
+-- a step that is refused names its line
+abbrev pub unless : ℕ → Option Refusal → SheetModel → Result SheetModel Stop
+unless n None s = Ok s
+unless n (Some e) s = Err (stop.Refused e n)
+
+-- S3 alone is carried out
+abbrev pub under : ℕ → TariffName → SheetModel → Result SheetModel Stop
+under n H3 s = Err (stop.Unsupported n)
+under n L2 s = Err (stop.Unsupported n)
+under n S3 s = Ok s
+
+-- a run joins the sheet or is refused
+abbrev pub joining : ℕ → Result ℕ Refusal → SheetModel → Result SheetModel Stop
+joining n (Ok held) s = Ok s
+joining n (Err e) s = Err (stop.Refused e n)
+
+-- what the statement of line n makes of the sheet so far, over storage with so much room. Code and month open it;
+-- capacities, programme and flex are read for their form alone
+abbrev pub step : ℕ → ℕ → SheetModel → Says → Result SheetModel Stop
+step room n s (code bytes) = unless n (code-refusal bytes) (opened bytes 0 0 room)
+step room n s (month y m) = unless n (month-refusal y m) (opened (s .code) y m room)
+step room n s (tariff t) = under n t s
+step room n s (capacities a b c d) = Ok s
+step room n s (programme p) = Ok s
+step room n s (flexible b) = Ok s
+step room n s (lead count demand) = Err (stop.Unsupported n)
+step room n s (off-peak day) = Err (stop.Unsupported n)
+step room n s (call-on day kind start hours) = Err (stop.Unsupported n)
+step room n s (run-of count demand) = joining n (run-answer s count demand) (after-run s count demand)
+
+-- line n is judged by its form, by its place, and then by its step
+abbrev pub line-step : ℕ → ℕ → SheetModel → Option Says → Result SheetModel Stop
+line-step room n s None = Err (stop.Refused MalformedLine n)
+line-step room n s (Some x) = cond (eqb (place-of x) (min n 7)) (step room n s x) (Err (stop.Refused LineOutOfOrder n))
+
+-- the sheet at the end of the lines from line n on, or why the job stopped; a job has its six first lines
+abbrev pub job-from : ℕ → ℕ → SheetModel → List (Option Says) → Result SheetModel Stop
+job-from room n s [] = cond (leb n 6) (Err (stop.Refused JobIncomplete 0)) (Ok s)
+job-from room n s (line ∷ more) = elim (line-step room n s line) [ Ok t ↦ job-from room (suc n) t more | Err e ↦ Err e ]
+
+-- the sheet of a whole job text, of at most 60,000 bytes
+abbrev pub job-sheet : List ℕ → ℕ → Result SheetModel Stop
+job-sheet text room =
+    cond (ltb 60000 (length text)) (Err (stop.Refused JobTextTooLong 0)) (job-from room 1 (opened [] 0 0 room) (said text))
+
+-- the printed bill of a sheet, issued with serial 1; a refused quote names line 0
+abbrev pub bill-of : SheetModel → Result (List ℕ) Stop
+bill-of s =
+    elim (plain-quote-in s3-meaning (s .year) (s .month) [] (s .readings)) [
+      Ok items ↦ Ok (rendered 1 (s .code) items)
+    | Err e ↦ Err (stop.Refused e 0)
+    ]
+
+-- a print goes into 512 bytes or more
+abbrev pub fitting : ℕ → List ℕ → Result (List ℕ) Stop
+fitting room print = cond (ltb room 512) (Err (stop.Refused PrintBufferTooShort 0)) (Ok print)
+
+-- one behind the other
+abbrev pub and-then : {A B : Type 0} → Result A Stop → (A → Result B Stop) → Result B Stop
+and-then (Ok x) next = next x
+and-then (Err e) next = Err e
+
+-- what a job prints, over storage and a buffer with so much room, or why it does not
+abbrev pub job-print : List ℕ → ℕ → ℕ → Result (List ℕ) Stop
+job-print text room print-room = and-then (job-sheet text room) (λ s. and-then (bill-of s) (fitting print-room))
+
+-- how many bytes are printed
+abbrev pub printed-bytes : Result (List ℕ) Stop → Result ℕ Stop
+printed-bytes (Ok print) = Ok (length print)
+printed-bytes (Err e) = Err e
+
+-- the outcome
+abbrev pub outcome-of : Result ℕ Stop → Outcome
+outcome-of (Ok count) = outcome.Printed count
+outcome-of (Err (stop.Refused e n)) = outcome.Refused e n
+outcome-of (Err (stop.Unsupported n)) = outcome.Unsupported n
+
+-- what the buffer holds then: the print and behind it what it held, or what it held
+abbrev pub buffer-after : Result (List ℕ) Stop → List ℕ → List ℕ
+buffer-after (Ok print) held = print ++ drop (length print) held
+buffer-after (Err e) held = held
+
+-- a print keeps within a buffer of so many bytes
+abbrev pub print-within : Outcome → ℕ → Type 0
+print-within (outcome.Printed count) room = count ≤ room
+print-within (outcome.Refused e n) room = Unit {0}
+print-within (outcome.Unsupported n) room = Unit {0}
+
+-- a job stops so, from line n with these lines on, whatever the sheet
+abbrev pub Stops : ℕ → List (Option Says) → Stop → Type 0
+Stops n lines e = (room : ℕ) (s : SheetModel) → job-from room n s lines ≡ Err e
+
+-- the job from line n with these lines on comes to what it comes to from line m with those lines on, with the same sheet
+abbrev pub Goes : ℕ → List (Option Says) → ℕ → List (Option Says) → Type 0
+Goes n lines m more = (room : ℕ) (s : SheetModel) → job-from room n s lines ≡ job-from room m s more

@@ -1,0 +1,49 @@
+// The lines of a job behind its six first ones.
+ghost use mathlib.Core.Path.{_≡_};
+ghost use Prim.Native.Nat.{ℕ, _+_, _≤_, _<_};
+ghost use lib.ListN.{length};
+ghost use Rattle.std.specs.declared.result.Result.the-variants.{Ok, Err};
+ghost use Rattle.readings.specs.SheetModels.{sheet-model};
+ghost use Rattle.job.specs.JobLines.{said};
+ghost use Rattle.job.specs.Jobs.{job-from};
+use crate::header::line_at;
+use crate::outcome::Stop;
+use crate::statement::Statement;
+use calendar::Refusal;
+use readings::Sheet;
+
+// Carries out the next line, and answers what stands behind it.
+fn body_line<'t>(sheet: &mut Sheet<'_>, text: &'t [u8], line: u32) -> Result<&'t [u8], Stop>
+    requires some { ⌜ 0 < length (now text) ⌝ }
+    requires later { ⌜ 7 ≤ line ⌝ }
+    ensures { λ r. ⌜ elim r [ Ok rest ↦ ((room : ℕ) → job-from room line (sheet-model (now (sheet .entry))) (said (now (text .entry))) ≡ job-from room (line + 1) (sheet-model (now (sheet .exit))) (said (now rest))) × (length (now rest) < length (now (text .entry))) | Err e ↦ (room : ℕ) → job-from room line (sheet-model (now (sheet .entry))) (said (now (text .entry))) ≡ Err e ] ⌝ }
+{
+    let (statement, rest) = line_at(text, line)?;
+    match statement {
+        Statement::Run { count, demand } => match sheet.run(count as usize, demand) {
+            Ok(_) => Ok(rest),
+            Err(refusal) => Err(Stop::Refused { refusal, line }),
+        },
+        Statement::Lead { .. } | Statement::OffPeak { .. } | Statement::Call { .. } => {
+            Err(Stop::Unsupported { line })
+        }
+        _ => Err(Stop::Refused {
+            refusal: Refusal::LineOutOfOrder,
+            line,
+        }),
+    }
+}
+
+// Carries out the lines from the seventh on.
+pub fn body(sheet: &mut Sheet<'_>, text: &[u8]) -> Result<(), Stop>
+    requires { ⌜ length (now text) ≤ 60000 ⌝ }
+    ensures { λ r. ⌜ elim r [ Ok u ↦ (room : ℕ) → job-from room 7 (sheet-model (now (sheet .entry))) (said (now (text .entry))) ≡ Ok (sheet-model (now (sheet .exit))) | Err e ↦ (room : ℕ) → job-from room 7 (sheet-model (now (sheet .entry))) (said (now (text .entry))) ≡ Err e ] ⌝ }
+{
+    let mut rest = text;
+    let mut line: u32 = 7;
+    while !rest.is_empty() {
+        rest = body_line(sheet, rest, line)?;
+        line += 1;
+    }
+    Ok(())
+}
