@@ -17,7 +17,7 @@ use Rattle.readings.specs.Runs.{run-answer, after-run}
 use Rattle.readings.specs.Sheets.{SheetModel, opened}
 use Rattle.tariffs.specs.S3.{s3-meaning}
 use Rattle.bill.specs.PrintText.{rendered}
-use Rattle.bill.specs.Quotes.{plain-quote-in}
+use Rattle.bill.specs.Quotes.{plain-quote}
 use Rattle.job.specs.declared.statement.TariffName.{TariffName}
 use Rattle.job.specs.declared.statement.TariffName.the-variants.{H3, L2, S3}
 use Rattle.job.specs.declared.outcome.Stop.{Stop}
@@ -75,9 +75,9 @@ job-sheet text room =
 -- the printed bill of a sheet, issued with serial 1; a refused quote names line 0
 abbrev pub bill-of : SheetModel → Result (List ℕ) Stop
 bill-of s =
-    elim (plain-quote-in s3-meaning (s .year) (s .month) [] (s .readings)) [
-      Ok items ↦ Ok (rendered 1 (s .code) items)
-    | Err e ↦ Err (stop.Refused e 0)
+    elim (plain-quote s3-meaning (s .year) (s .month) [] (s .readings)) [
+      | Ok items ↦ Ok (rendered 1 (s .code) items)
+      | Err e ↦ Err (stop.Refused e 0)
     ]
 
 -- a print goes into 512 bytes or more

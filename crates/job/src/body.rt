@@ -35,7 +35,7 @@ fn body_line<'t>(sheet: &mut Sheet<'_>, text: &'t [u8], line: u32) -> Result<&'t
 }
 
 // Carries out the lines from the seventh on.
-pub fn body(sheet: &mut Sheet<'_>, text: &[u8]) -> Result<(), Stop>
+pub(crate) fn body(sheet: &mut Sheet<'_>, text: &[u8]) -> Result<(), Stop>
     requires { ⌜ length (now text) ≤ 60000 ⌝ }
     ensures { λ r. ⌜ elim r [ Ok u ↦ (room : ℕ) → job-from room 7 (sheet-model (now (sheet .entry))) (said (now (text .entry))) ≡ Ok (sheet-model (now (sheet .exit))) | Err e ↦ (room : ℕ) → job-from room 7 (sheet-model (now (sheet .entry))) (said (now (text .entry))) ≡ Err e ] ⌝ }
 {

@@ -16,7 +16,7 @@ use crate::text::cut;
 use calendar::Refusal;
 
 // What the next line says, and what stands behind it.
-pub fn line_at(text: &[u8], line: u32) -> Result<(Statement<'_>, &[u8]), Stop>
+pub(crate) fn line_at(text: &[u8], line: u32) -> Result<(Statement<'_>, &[u8]), Stop>
     requires { ⌜ (length (now text) ≡ 0 → line ≤ 6) ⌝ }
     ensures { λ r. ⌜ elim r [ Ok p ↦ (said (now (text .entry)) ≡ Some (says (p .0)) ∷ said (now (p .1))) × (length (now (p .1)) < length (now (text .entry))) | Err e ↦ Stops line (said (now (text .entry))) e ] ⌝ }
 {
@@ -40,7 +40,7 @@ pub fn line_at(text: &[u8], line: u32) -> Result<(Statement<'_>, &[u8]), Stop>
 }
 
 // The bytes of the code line, and what stands behind it.
-pub fn code_line(text: &[u8]) -> Result<(&[u8], &[u8]), Stop>
+pub(crate) fn code_line(text: &[u8]) -> Result<(&[u8], &[u8]), Stop>
     ensures { λ r. ⌜ elim r [ Ok p ↦ (said (now (text .entry)) ≡ Some (said-code (now (p .0))) ∷ said (now (p .1))) × (length (now (p .1)) < length (now (text .entry))) | Err e ↦ Stops 1 (said (now (text .entry))) e ] ⌝ }
 {
     let (statement, rest) = line_at(text, 1)?;
@@ -54,7 +54,7 @@ pub fn code_line(text: &[u8]) -> Result<(&[u8], &[u8]), Stop>
 }
 
 // Year and month of the month line, and what stands behind it.
-pub fn month_line(text: &[u8]) -> Result<(u32, u32, &[u8]), Stop>
+pub(crate) fn month_line(text: &[u8]) -> Result<(u32, u32, &[u8]), Stop>
     ensures { λ r. ⌜ elim r [ Ok p ↦ (said (now (text .entry)) ≡ Some (said-month (p .0) (p .1)) ∷ said (now (p .2))) × (length (now (p .2)) < length (now (text .entry))) | Err e ↦ Stops 2 (said (now (text .entry))) e ] ⌝ }
 {
     let (statement, rest) = line_at(text, 2)?;
@@ -101,7 +101,7 @@ fn form_line(text: &[u8], line: u32) -> Result<&[u8], Stop>
 }
 
 // What stands behind the lines from the tariff to flex.
-pub fn terms(text: &[u8]) -> Result<&[u8], Stop>
+pub(crate) fn terms(text: &[u8]) -> Result<&[u8], Stop>
     ensures { λ r. ⌜ elim r [ Ok rest ↦ Goes 3 (said (now (text .entry))) 7 (said (now rest)) × (length (now rest) < length (now (text .entry))) | Err e ↦ Stops 3 (said (now (text .entry))) e ] ⌝ }
 {
     let rest = tariff_line(text)?;
