@@ -21,6 +21,7 @@ pub use day::Weekday;
 pub use month::Month;
 pub use off_peak::OffPeakDay;
 pub use off_peak::OffPeakDayEntry;
+pub use off_peak::book_off_peak;
 pub use off_peak::is_off_peak;
 pub use refusal::Refusal;
 pub use season::Season;

@@ -4,6 +4,7 @@ ghost use Prim.Native.Nat.{_≤_};
 mod methods;
 
 pub use methods::OffPeakDayEntry;
+pub use methods::book_off_peak;
 pub use methods::is_off_peak;
 
 #[derive(Clone, Copy)]

@@ -10,6 +10,8 @@ use Rattle.std.specs.declared.option.Option.the-variants.{Some, None}
 use Rattle.std.specs.declared.result.Result.{Result}
 use Rattle.std.specs.declared.result.Result.the-variants.{Ok, Err}
 use Rattle.calendar.specs.Gregorian.{month-refusal}
+use Rattle.calendar.specs.OffPeak.{off-peak-answer, after-off-peak}
+use Rattle.calendar.specs.declared.off_peak.OffPeakDay.{OffPeakDay}
 use Rattle.calendar.specs.declared.refusal.Refusal.{Refusal}
 use Rattle.calendar.specs.declared.refusal.Refusal.the-variants.{JobTextTooLong, MalformedLine, LineOutOfOrder, JobIncomplete, PrintBufferTooShort}
 use Rattle.readings.specs.Codes.{code-refusal}
@@ -27,57 +29,70 @@ use Rattle.job.specs.declared.outcome.Outcome.the-variants as outcome
 use Rattle.job.specs.JobLines.{said}
 use Rattle.job.specs.Statements.{Says, place-of, code, month, tariff, capacities, programme, flexible, lead, off-peak, call-on, run-of}
 
+-- what a job holds so far: its sheet, and the off-peak days that are booked
+pub record JobState : Type 0 where
+  pub sheet : SheetModel
+  pub off-peak : List OffPeakDay
+
+-- a job that opens a sheet has no off-peak day yet
+abbrev pub opening : SheetModel → JobState
+opening sheet = record { sheet = sheet; off-peak = [] }
+
 -- a step that is refused names its line
-abbrev pub unless : ℕ → Option Refusal → SheetModel → Result SheetModel Stop
+abbrev pub unless : ℕ → Option Refusal → JobState → Result JobState Stop
 unless n None s = Ok s
 unless n (Some e) s = Err (stop.Refused e n)
 
 -- S3 alone is carried out
-abbrev pub under : ℕ → TariffName → SheetModel → Result SheetModel Stop
+abbrev pub under : ℕ → TariffName → JobState → Result JobState Stop
 under n H3 s = Err (stop.Unsupported n)
 under n L2 s = Err (stop.Unsupported n)
 under n S3 s = Ok s
 
--- a run joins the sheet or is refused
-abbrev pub joining : ℕ → Result ℕ Refusal → SheetModel → Result SheetModel Stop
-joining n (Ok held) s = Ok s
-joining n (Err e) s = Err (stop.Refused e n)
+-- a step with an answer of its own goes on or is refused
+abbrev pub answering : {A : Type 0} → ℕ → Result A Refusal → JobState → Result JobState Stop
+answering n (Ok a) s = Ok s
+answering n (Err e) s = Err (stop.Refused e n)
 
--- what the statement of line n makes of the sheet so far, over storage with so much room. Code and month open it;
--- capacities, programme and flex are read for their form alone
-abbrev pub step : ℕ → ℕ → SheetModel → Says → Result SheetModel Stop
-step room n s (code bytes) = unless n (code-refusal bytes) (opened bytes 0 0 room)
-step room n s (month y m) = unless n (month-refusal y m) (opened (s .code) y m room)
-step room n s (tariff t) = under n t s
-step room n s (capacities a b c d) = Ok s
-step room n s (programme p) = Ok s
-step room n s (flexible b) = Ok s
-step room n s (lead count demand) = Err (stop.Unsupported n)
-step room n s (off-peak day) = Err (stop.Unsupported n)
-step room n s (call-on day kind start hours) = Err (stop.Unsupported n)
-step room n s (run-of count demand) = joining n (run-answer s count demand) (after-run s count demand)
+-- what the statement of line n makes of a job, over storage with so much room and a book of so many places. Code and month open the
+-- sheet; capacities, programme and flex are read for their form alone
+abbrev pub step : ℕ → ℕ → ℕ → JobState → Says → Result JobState Stop
+step room places n s (code bytes) = unless n (code-refusal bytes) (opening (opened bytes 0 0 room))
+step room places n s (month y m) = unless n (month-refusal y m) (opening (opened (s .sheet .code) y m room))
+step room places n s (tariff t) = under n t s
+step room places n s (capacities a b c d) = Ok s
+step room places n s (programme p) = Ok s
+step room places n s (flexible b) = Ok s
+step room places n s (lead count demand) = Err (stop.Unsupported n)
+step room places n s (off-peak day) = answering n (off-peak-answer (s .off-peak) places day) (record { sheet = s .sheet; off-peak = after-off-peak (s .off-peak) places day })
+step room places n s (call-on day kind start hours) = Err (stop.Unsupported n)
+step room places n s (run-of count demand) = answering n (run-answer (s .sheet) count demand) (record { sheet = after-run (s .sheet) count demand; off-peak = s .off-peak })
 
 -- line n is judged by its form, by its place, and then by its step
-abbrev pub line-step : ℕ → ℕ → SheetModel → Option Says → Result SheetModel Stop
-line-step room n s None = Err (stop.Refused MalformedLine n)
-line-step room n s (Some x) = cond (eqb (place-of x) (min n 7)) (step room n s x) (Err (stop.Refused LineOutOfOrder n))
+abbrev pub line-step : ℕ → ℕ → ℕ → JobState → Option Says → Result JobState Stop
+line-step room places n s None = Err (stop.Refused MalformedLine n)
+line-step room places n s (Some x) = cond (eqb (place-of x) (min n 7)) (step room places n s x) (Err (stop.Refused LineOutOfOrder n))
 
--- the sheet at the end of the lines from line n on, or why the job stopped; a job has its six first lines
-abbrev pub job-from : ℕ → ℕ → SheetModel → List (Option Says) → Result SheetModel Stop
-job-from room n s [] = cond (leb n 6) (Err (stop.Refused JobIncomplete 0)) (Ok s)
-job-from room n s (line ∷ more) = elim (line-step room n s line) [ Ok t ↦ job-from room (suc n) t more | Err e ↦ Err e ]
+-- what a job holds at the end of the lines from line n on, or why it stopped; a job has its six first lines
+abbrev pub job-from : ℕ → ℕ → ℕ → JobState → List (Option Says) → Result JobState Stop
+job-from room places n s [] = cond (leb n 6) (Err (stop.Refused JobIncomplete 0)) (Ok s)
+job-from room places n s (line ∷ more) = elim (line-step room places n s line) [ Ok t ↦ job-from room places (suc n) t more | Err e ↦ Err e ]
 
--- the sheet of a whole job text, of at most 60,000 bytes
-abbrev pub job-sheet : List ℕ → ℕ → Result SheetModel Stop
-job-sheet text room =
-    cond (ltb 60000 (length text)) (Err (stop.Refused JobTextTooLong 0)) (job-from room 1 (opened [] 0 0 room) (said text))
+-- a job's books have 64 places
+abbrev pub book-places : ℕ
+book-places = 64
 
--- the printed bill of a sheet, issued with serial 1; a refused quote names line 0
-abbrev pub bill-of : SheetModel → Result (List ℕ) Stop
+-- what a whole job text, of at most 60,000 bytes, leads to
+abbrev pub job-end : List ℕ → ℕ → Result JobState Stop
+job-end text room =
+    cond (ltb 60000 (length text)) (Err (stop.Refused JobTextTooLong 0)) (job-from room book-places 1 (opening (opened [] 0 0 room)) (said text))
+
+-- the printed bill of what a job holds, issued with serial 1; a refused quote names line 0
+abbrev pub bill-of : JobState → Result (List ℕ) Stop
 bill-of s =
-    elim (plain-quote s3-meaning (s .year) (s .month) [] (s .readings)) [
-      | Ok items ↦ Ok (rendered 1 (s .code) items)
-      | Err e ↦ Err (stop.Refused e 0)
+    elim (plain-quote s3-meaning (s .sheet .year) (s .sheet .month) (s .off-peak) (s .sheet .readings)) [
+      Ok items ↦ Ok (rendered 1 (s .sheet .code) items)
+    | Err e ↦ Err (stop.Refused e 0)
     ]
 
 -- a print goes into 512 bytes or more
@@ -91,7 +106,7 @@ and-then (Err e) next = Err e
 
 -- what a job prints, over storage and a buffer with so much room, or why it does not
 abbrev pub job-print : List ℕ → ℕ → ℕ → Result (List ℕ) Stop
-job-print text room print-room = and-then (job-sheet text room) (λ s. and-then (bill-of s) (fitting print-room))
+job-print text room print-room = and-then (job-end text room) (λ s. and-then (bill-of s) (fitting print-room))
 
 -- how many bytes are printed
 abbrev pub printed-bytes : Result (List ℕ) Stop → Result ℕ Stop
@@ -115,10 +130,10 @@ print-within (outcome.Printed count) room = count ≤ room
 print-within (outcome.Refused e n) room = Unit {0}
 print-within (outcome.Unsupported n) room = Unit {0}
 
--- a job stops so, from line n with these lines on, whatever the sheet
+-- a job stops so, from line n with these lines on, whatever it holds
 abbrev pub Stops : ℕ → List (Option Says) → Stop → Type 0
-Stops n lines e = (room : ℕ) (s : SheetModel) → job-from room n s lines ≡ Err e
+Stops n lines e = (room places : ℕ) (s : JobState) → job-from room places n s lines ≡ Err e
 
--- the job from line n with these lines on comes to what it comes to from line m with those lines on, with the same sheet
+-- the job from line n with these lines on comes to what it comes to from line m with those lines on, holding the same
 abbrev pub Goes : ℕ → List (Option Says) → ℕ → List (Option Says) → Type 0
-Goes n lines m more = (room : ℕ) (s : SheetModel) → job-from room n s lines ≡ job-from room m s more
+Goes n lines m more = (room places : ℕ) (s : JobState) → job-from room places n s lines ≡ job-from room places m s more

@@ -1,4 +1,5 @@
 pub mod JobLines
+pub mod JobModels
 pub mod Jobs
 pub mod LineParts
 pub mod Lines

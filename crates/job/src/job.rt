@@ -1,7 +1,7 @@
 // A job carried out, from its text to the printed bill.
 ghost use mathlib.Core.Path.{_≡_};
 ghost use lib.ListN.{length};
-ghost use Rattle.readings.specs.SheetModels.{sheet-model};
+ghost use Rattle.job.specs.JobModels.{job-model};
 ghost use Rattle.job.specs.Jobs.{and-then, bill-of, fitting, printed-bytes, buffer-after, job-print, outcome-of, print-within};
 use crate::body::body;
 use crate::header::code_line;
@@ -10,7 +10,10 @@ use crate::header::terms;
 use crate::outcome::Outcome;
 use crate::outcome::Stop;
 use bill::plain_quote;
+use calendar::Book;
 use calendar::Month;
+use calendar::OffPeakDay;
+use calendar::OffPeakDayEntry;
 use calendar::Refusal;
 use readings::MeterCode;
 use readings::Sheet;
@@ -23,12 +26,15 @@ pub const LONGEST_TEXT: usize = 60_000;
 // The serial under which a job's bill is issued.
 const SERIAL: u32 = 1;
 
+// The places of a job's books.
+const BOOK_PLACES: usize = 64;
+
 // Quotes a sheet by S3, issues the bill and prints it.
-fn print_sheet(sheet: &Sheet<'_>, buffer: &mut [u8]) -> Result<usize, Stop>
-    ensures answer { λ r. ⌜ r ≡ printed-bytes (and-then (bill-of (sheet-model (now (sheet .entry)))) (fitting (length (now (buffer .entry))))) ⌝ }
-    ensures written { λ _. ⌜ now (buffer .exit) ≡ buffer-after (and-then (bill-of (sheet-model (now (sheet .entry)))) (fitting (length (now (buffer .entry))))) (now (buffer .entry)) ⌝ }
+fn print_sheet(sheet: &Sheet<'_>, off_peak: &Book<'_, OffPeakDay>, buffer: &mut [u8]) -> Result<usize, Stop>
+    ensures answer { λ r. ⌜ r ≡ printed-bytes (and-then (bill-of (job-model (now (sheet .entry)) (now («off_peak» .entry)))) (fitting (length (now (buffer .entry))))) ⌝ }
+    ensures written { λ _. ⌜ now (buffer .exit) ≡ buffer-after (and-then (bill-of (job-model (now (sheet .entry)) (now («off_peak» .entry)))) (fitting (length (now (buffer .entry))))) (now (buffer .entry)) ⌝ }
 {
-    let draft = match plain_quote(&S3, sheet, &[]) {
+    let draft = match plain_quote(&S3, sheet, off_peak.entries()) {
         Ok(draft) => draft,
         Err(refusal) => return Err(Stop::Refused { refusal, line: 0 }),
     };
@@ -64,8 +70,10 @@ fn print_job(text: &[u8], storage: &mut [u32], buffer: &mut [u8]) -> Result<usiz
     };
     let rest = terms(rest)?;
     let mut sheet = Sheet::open(code, month, storage);
-    body(&mut sheet, rest)?;
-    print_sheet(&sheet, buffer)
+    let mut places = [OffPeakDay::first(); BOOK_PLACES];
+    let mut off_peak = Book::open(&mut places);
+    body(&mut sheet, &mut off_peak, rest)?;
+    print_sheet(&sheet, &off_peak, buffer)
 }
 
 // Carries out a job over lent storage for its readings, and prints its bill into the buffer. The buffer holds what it held
