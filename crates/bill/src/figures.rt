@@ -1,7 +1,6 @@
 // Worked figures, shown from the definitions that the contracts cite.
 ghost use mathlib.Core.Bool.{true};
 ghost use mathlib.Core.Path.{_≡_};
-ghost use Prim.Native.Nat.{ℕ};
 ghost use lib.ListN.{length};
 ghost use Rattle.bill.specs.Figures.{every, figures};
 
@@ -10,5 +9,5 @@ pub fn figures_shown() -> usize
     ensures count { λ r. ⌜ r ≡ length figures ⌝ }
     ensures hold { λ _. ⌜ every figures ≡ true ⌝ }
 {
-    10
+    13
 }

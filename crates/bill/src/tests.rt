@@ -1,13 +1,21 @@
 // Bills printed as in the examples, and a print that is refused.
+use crate::contract::contract_basic;
+use crate::contract::month_excess;
 use crate::draft::Draft;
 use crate::issued::Issued;
 use crate::items::Items;
+use calendar::Month;
 use calendar::Refusal;
+use calendar::Season;
 use calendar::refusal::RefusalDebug;
 use calendar::refusal::RefusalPartialEq;
 use readings::MeterCode;
 use std::test::*;
 use tariffs::ByRank;
+use tariffs::Capacities;
+use tariffs::L2;
+use tariffs::L2Contract;
+use tariffs::L2Tariff;
 
 const NONE: ByRank = ByRank {
     peak: 0,
@@ -83,4 +91,32 @@ fn the_bytes_past_the_print_stay() -> Result<(), Fail> {
     check_eq(n, 141)?;
     check(buffer[140] == b'\n')?;
     check(&buffer[141..600] == &[b'.'; 459])
+}
+
+#[test]
+fn an_idle_month_has_half_its_basic_charge() -> Result<(), Fail> {
+    let capacities = Capacities::new(10, 0, 10, 5)?;
+    check_eq(
+        contract_basic(&L2, Season::Summer, capacities, &[0, 1]),
+        1_238_600,
+    )?;
+    check_eq(
+        contract_basic(&L2, Season::OtherMonths, capacities, &[1, 0]),
+        936_200,
+    )?;
+    check_eq(
+        contract_basic(&L2, Season::Summer, capacities, &[0, 0]),
+        619_300,
+    )
+}
+
+#[test]
+fn an_excess_is_charged_twice_and_three_times() -> Result<(), Fail> {
+    let month = Month::new(2024, 7)?;
+    let capacities = Capacities::new(10, 0, 10, 5)?;
+    let excess = month_excess(&L2, month, &[], capacities, &[12; 2976])?;
+    check_eq(excess.lines.total(), 2)?;
+    check_eq(excess.charge, 472_400)?;
+    let short = month_excess(&L2, month, &[], capacities, &[12; 2975]);
+    check_eq(short.err(), Some(Refusal::MonthNotFull))
 }

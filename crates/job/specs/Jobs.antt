@@ -91,8 +91,8 @@ job-end text room =
 abbrev pub bill-of : JobState → Result (List ℕ) Stop
 bill-of s =
     elim (plain-quote s3-meaning (s .sheet .year) (s .sheet .month) (s .off-peak) (s .sheet .readings)) [
-      Ok items ↦ Ok (rendered 1 (s .sheet .code) items)
-    | Err e ↦ Err (stop.Refused e 0)
+      | Ok items ↦ Ok (rendered 1 (s .sheet .code) items)
+      | Err e ↦ Err (stop.Refused e 0)
     ]
 
 -- a print goes into 512 bytes or more

@@ -17,7 +17,12 @@ use calendar::book_off_peak;
 use readings::Sheet;
 
 // Carries out the next line, and answers what stands behind it.
-fn body_line<'t>(sheet: &mut Sheet<'_>, off_peak: &mut Book<'_, OffPeakDay>, text: &'t [u8], line: u32) -> Result<&'t [u8], Stop>
+fn body_line<'t>(
+    sheet: &mut Sheet<'_>,
+    off_peak: &mut Book<'_, OffPeakDay>,
+    text: &'t [u8],
+    line: u32,
+) -> Result<&'t [u8], Stop>
     requires some { ⌜ 0 < length (now text) ⌝ }
     requires later { ⌜ 7 ≤ line ⌝ }
     ensures answer { λ r. ⌜ elim r [ Ok rest ↦ ((room : ℕ) → job-from room (length (book-storage (now («off_peak» .entry)))) line (job-model (now (sheet .entry)) (now («off_peak» .entry))) (said (now (text .entry))) ≡ job-from room (length (book-storage (now («off_peak» .entry)))) (line + 1) (job-model (now (sheet .exit)) (now («off_peak» .exit))) (said (now rest))) × (length (now rest) < length (now (text .entry))) | Err e ↦ (room : ℕ) → job-from room (length (book-storage (now («off_peak» .entry)))) line (job-model (now (sheet .entry)) (now («off_peak» .entry))) (said (now (text .entry))) ≡ Err e ] ⌝ }
@@ -42,7 +47,11 @@ fn body_line<'t>(sheet: &mut Sheet<'_>, off_peak: &mut Book<'_, OffPeakDay>, tex
 }
 
 // Carries out the lines from the seventh on.
-pub(crate) fn body(sheet: &mut Sheet<'_>, off_peak: &mut Book<'_, OffPeakDay>, text: &[u8]) -> Result<(), Stop>
+pub(crate) fn body(
+    sheet: &mut Sheet<'_>,
+    off_peak: &mut Book<'_, OffPeakDay>,
+    text: &[u8],
+) -> Result<(), Stop>
     requires { ⌜ length (now text) ≤ 60000 ⌝ }
     ensures { λ r. ⌜ elim r [ Ok u ↦ (room : ℕ) → job-from room (length (book-storage (now («off_peak» .entry)))) 7 (job-model (now (sheet .entry)) (now («off_peak» .entry))) (said (now (text .entry))) ≡ Ok (job-model (now (sheet .exit)) (now («off_peak» .exit))) | Err e ↦ (room : ℕ) → job-from room (length (book-storage (now («off_peak» .entry)))) 7 (job-model (now (sheet .entry)) (now («off_peak» .entry))) (said (now (text .entry))) ≡ Err e ] ⌝ }
 {

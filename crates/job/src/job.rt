@@ -30,7 +30,11 @@ const SERIAL: u32 = 1;
 const BOOK_PLACES: usize = 64;
 
 // Quotes a sheet by S3, issues the bill and prints it.
-fn print_sheet(sheet: &Sheet<'_>, off_peak: &Book<'_, OffPeakDay>, buffer: &mut [u8]) -> Result<usize, Stop>
+fn print_sheet(
+    sheet: &Sheet<'_>,
+    off_peak: &Book<'_, OffPeakDay>,
+    buffer: &mut [u8],
+) -> Result<usize, Stop>
     ensures answer { λ r. ⌜ r ≡ printed-bytes (and-then (bill-of (job-model (now (sheet .entry)) (now («off_peak» .entry)))) (fitting (length (now (buffer .entry))))) ⌝ }
     ensures written { λ _. ⌜ now (buffer .exit) ≡ buffer-after (and-then (bill-of (job-model (now (sheet .entry)) (now («off_peak» .entry)))) (fitting (length (now (buffer .entry))))) (now (buffer .entry)) ⌝ }
 {
