@@ -1,11 +1,13 @@
 // The lines of a job behind its six first ones.
 ghost use mathlib.Core.Path.{_≡_};
 ghost use Prim.Native.Nat.{ℕ, _+_, _≤_, _<_};
-ghost use lib.ListN.{length};
+ghost use denote.Ref.{name};
+ghost use lib.ListN.{length, drop};
+ghost use Rattle.std.specs.declared.option.Option.the-variants.{None};
 ghost use Rattle.std.specs.declared.result.Result.the-variants.{Ok, Err};
-ghost use Rattle.readings.specs.SheetModels.{sheet-model};
+ghost use Rattle.readings.specs.SheetModels.{sheet-model, sheet-storage, sheet-held};
 ghost use Rattle.job.specs.JobLines.{said};
-ghost use Rattle.job.specs.Jobs.{job-from};
+ghost use Rattle.job.specs.Jobs.{ending, job-from, Halts};
 use crate::header::line_at;
 use crate::outcome::Stop;
 use crate::statement::Statement;
@@ -16,7 +18,10 @@ use readings::Sheet;
 fn body_line<'t>(sheet: &mut Sheet<'_>, text: &'t [u8], line: u32) -> Result<&'t [u8], Stop>
     requires some { ⌜ 0 < length (now text) ⌝ }
     requires later { ⌜ 7 ≤ line ⌝ }
-    ensures { λ r. ⌜ elim r [ Ok rest ↦ ((room : ℕ) → job-from room line (sheet-model (now (sheet .entry))) (said (now (text .entry))) ≡ job-from room (line + 1) (sheet-model (now (sheet .exit))) (said (now rest))) × (length (now rest) < length (now (text .entry))) | Err e ↦ (room : ℕ) → job-from room line (sheet-model (now (sheet .entry))) (said (now (text .entry))) ≡ Err e ] ⌝ }
+    ensures goes { λ r. ⌜ elim r [ Ok rest ↦ ((room : ℕ) → job-from room line (sheet-model (now (sheet .entry))) (said (now (text .entry))) ≡ job-from room (line + 1) (sheet-model (now (sheet .exit))) (said (now rest))) × (length (now rest) < length (now (text .entry))) | Err e ↦ (room : ℕ) → Halts (job-from room line (sheet-model (now (sheet .entry))) (said (now (text .entry)))) (sheet-model (now (sheet .exit))) e ] ⌝ }
+    ensures rest { λ _. ⌜ drop (sheet-held (now (sheet .exit))) (sheet-storage (now (sheet .exit))) ≡ drop (sheet-held (now (sheet .exit))) (sheet-storage (now (sheet .entry))) ⌝ }
+    ensures grows { λ _. ⌜ sheet-held (now (sheet .entry)) ≤ sheet-held (now (sheet .exit)) ⌝ }
+    ensures named { λ _. ⌜ name (now (sheet .exit) .storage) ≡ name (now (sheet .entry) .storage) ⌝ }
 {
     let (statement, rest) = line_at(text, line)?;
     match statement {
@@ -37,12 +42,17 @@ fn body_line<'t>(sheet: &mut Sheet<'_>, text: &'t [u8], line: u32) -> Result<&'t
 // Carries out the lines from the seventh on.
 pub fn body(sheet: &mut Sheet<'_>, text: &[u8]) -> Result<(), Stop>
     requires { ⌜ length (now text) ≤ 60000 ⌝ }
-    ensures { λ r. ⌜ elim r [ Ok u ↦ (room : ℕ) → job-from room 7 (sheet-model (now (sheet .entry))) (said (now (text .entry))) ≡ Ok (sheet-model (now (sheet .exit))) | Err e ↦ (room : ℕ) → job-from room 7 (sheet-model (now (sheet .entry))) (said (now (text .entry))) ≡ Err e ] ⌝ }
+    ensures ends { λ r. ⌜ elim r [ Ok u ↦ (room : ℕ) → job-from room 7 (sheet-model (now (sheet .entry))) (said (now (text .entry))) ≡ ending (sheet-model (now (sheet .exit))) None | Err e ↦ (room : ℕ) → Halts (job-from room 7 (sheet-model (now (sheet .entry))) (said (now (text .entry)))) (sheet-model (now (sheet .exit))) e ] ⌝ }
+    ensures rest { λ _. ⌜ drop (sheet-held (now (sheet .exit))) (sheet-storage (now (sheet .exit))) ≡ drop (sheet-held (now (sheet .exit))) (sheet-storage (now (sheet .entry))) ⌝ }
+    ensures named { λ _. ⌜ name (now (sheet .exit) .storage) ≡ name (now (sheet .entry) .storage) ⌝ }
 {
     let mut rest = text;
     let mut line: u32 = 7;
     while !rest.is_empty() {
-        rest = body_line(sheet, rest, line)?;
+        match body_line(sheet, rest, line) {
+            Ok(behind) => rest = behind,
+            Err(stop) => return Err(stop),
+        }
         line += 1;
     }
     Ok(())

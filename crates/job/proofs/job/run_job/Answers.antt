@@ -24,5 +24,6 @@ returns-in-Ok c =
     record {
       answer = ap outcome-of (c .in-Ok .ensures tt .answer);
       written = c .in-Ok .ensures tt .written;
+      stored = c .in-Ok .ensures tt .stored;
       within = kept-within p (c .args .buffer .now) (c .print-job .last .buffer) (c .in-Ok .count) (c .in-Ok .ensures tt .answer) (c .in-Ok .ensures tt .written) (c .print-job .kept .buffer);
     }
