@@ -89,8 +89,8 @@ whole-sheet s (Some e) = Err e
 abbrev pub bill-of : SheetModel → Result (List ℕ) Stop
 bill-of s =
     elim (plain-quote-in s3-meaning (s .year) (s .month) [] (s .readings)) [
-      Ok items ↦ Ok (rendered 1 (s .code) items)
-    | Err e ↦ Err (stop.Refused e 0)
+      | Ok items ↦ Ok (rendered 1 (s .code) items)
+      | Err e ↦ Err (stop.Refused e 0)
     ]
 
 -- a print goes into 512 bytes or more

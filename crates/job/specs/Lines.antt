@@ -26,12 +26,12 @@ pub record FourParts : Type 0 where
 abbrev pub four-of : List ℕ → Option FourParts
 four-of value =
     elim (cut-at 44 value) [
-      None ↦ None
-    | Some p ↦ elim (cut-at 44 (p .1)) [
-        None ↦ None
-      | Some q ↦ elim (cut-at 44 (q .1)) [
-          None ↦ None
-        | Some r ↦ Some (record { first = p .0; second = q .0; third = r .0; fourth = r .1 })
+      | None ↦ None
+      | Some p ↦ elim (cut-at 44 (p .1)) [
+        | None ↦ None
+        | Some q ↦ elim (cut-at 44 (q .1)) [
+          | None ↦ None
+          | Some r ↦ Some (record { first = p .0; second = q .0; third = r .0; fourth = r .1 })
         ]
       ]
     ]

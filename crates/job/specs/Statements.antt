@@ -42,10 +42,10 @@ place-of (run-of n d) = 7
 abbrev pub capacities-said : List ℕ → Option Says
 capacities-said value =
     elim (four-of value) [
-      None ↦ None
-    | Some f ↦ elim (both (number-of (f .first)) (number-of (f .second))) [
-        None ↦ None
-      | Some p ↦ elim (both (number-of (f .third)) (number-of (f .fourth))) [ None ↦ None | Some q ↦ Some (capacities (p .0) (p .1) (q .0) (q .1)) ]
+      | None ↦ None
+      | Some f ↦ elim (both (number-of (f .first)) (number-of (f .second))) [
+        | None ↦ None
+        | Some p ↦ elim (both (number-of (f .third)) (number-of (f .fourth))) [ None ↦ None | Some q ↦ Some (capacities (p .0) (p .1) (q .0) (q .1)) ]
       ]
     ]
 
@@ -53,8 +53,8 @@ capacities-said value =
 abbrev pub call-said : List ℕ → List ℕ → List ℕ → List ℕ → Option Says
 call-said date kind start hours =
     elim (both (date-of date) (number-of kind)) [
-      None ↦ None
-    | Some p ↦ elim (both (number-of start) (number-of hours)) [ None ↦ None | Some q ↦ Some (call-on (p .0) (p .1) (q .0) (q .1)) ]
+      | None ↦ None
+      | Some p ↦ elim (both (number-of start) (number-of hours)) [ None ↦ None | Some q ↦ Some (call-on (p .0) (p .1) (q .0) (q .1)) ]
     ]
 
 -- two numbers

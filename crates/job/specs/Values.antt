@@ -43,8 +43,8 @@ abbrev pub date-parts : List ℕ → Option (ℕ × ℕ × ℕ)
 date-parts bs =
     cond (eqb (length bs) 10 && (eqb (getD bs 4 0) 45 && eqb (getD bs 7 0) 45))
     (elim (year-in bs) [
-      None ↦ None
-    | Some y ↦ elim (both (two-digits (getD bs 5 0) (getD bs 6 0)) (two-digits (getD bs 8 0) (getD bs 9 0))) [ None ↦ None | Some p ↦ Some (y, p .0, p .1) ]
+      | None ↦ None
+      | Some y ↦ elim (both (two-digits (getD bs 5 0) (getD bs 6 0)) (two-digits (getD bs 8 0) (getD bs 9 0))) [ None ↦ None | Some p ↦ Some (y, p .0, p .1) ]
     ])
     None
 
@@ -66,8 +66,8 @@ abbrev pub programme-of : List ℕ → Option ProgrammeName
 programme-of bs =
     cond (sameBytes bs (codes "none")) (Some no-programme)
     (elim (cut-at 44 bs) [
-      None ↦ None
-    | Some p ↦ cond (sameBytes (p .0) (codes "bid")) (elim (pair-of (p .1)) [ None ↦ None | Some q ↦ Some (Bid (q .0) (q .1)) ]) None
+      | None ↦ None
+      | Some p ↦ cond (sameBytes (p .0) (codes "bid")) (elim (pair-of (p .1)) [ None ↦ None | Some q ↦ Some (Bid (q .0) (q .1)) ]) None
     ])
 
 -- a flag is one byte, 0 or 1

@@ -9,9 +9,20 @@ use crate::text::is;
 
 #[derive(Clone, Copy)]
 pub enum Line<'a> {
-    Keyed { key: &'a [u8], value: &'a [u8] },
-    Run { count: &'a [u8], demand: &'a [u8] },
-    Call { date: &'a [u8], kind: &'a [u8], start: &'a [u8], hours: &'a [u8] },
+    Keyed {
+        key: &'a [u8],
+        value: &'a [u8],
+    },
+    Run {
+        count: &'a [u8],
+        demand: &'a [u8],
+    },
+    Call {
+        date: &'a [u8],
+        kind: &'a [u8],
+        start: &'a [u8],
+        hours: &'a [u8],
+    },
     Malformed(&'a [u8]),
 }
 

@@ -91,21 +91,27 @@ fn jobs_without_their_lines() -> Result<(), Fail> {
 #[test]
 fn jobs_with_runs() -> Result<(), Fail> {
     check(matches!(
-        outcome(b"code=A\nmonth=2024-07\ntariff=S3\ncaps=0,0,0,0\nprogramme=none\nflex=0\nrun=0,50000\nrun=2977,4\n"),
+        outcome(
+            b"code=A\nmonth=2024-07\ntariff=S3\ncaps=0,0,0,0\nprogramme=none\nflex=0\nrun=0,50000\nrun=2977,4\n"
+        ),
         Outcome::Refused {
             refusal: Refusal::PastLastPlace,
             line: 8
         }
     ))?;
     check(matches!(
-        outcome(b"code=A\nmonth=2024-07\ntariff=S3\ncaps=0,0,0,0\nprogramme=none\nflex=0\nrun=2975,4\n"),
+        outcome(
+            b"code=A\nmonth=2024-07\ntariff=S3\ncaps=0,0,0,0\nprogramme=none\nflex=0\nrun=2975,4\n"
+        ),
         Outcome::Refused {
             refusal: Refusal::MonthNotFull,
             line: 0
         }
     ))?;
     check(matches!(
-        outcome(b"code=PARK-EAST-12-A\nmonth=2024-07\ntariff=S3\ncaps=0,0,0,0\nprogramme=none\nflex=0\nrun=2976,4\n"),
+        outcome(
+            b"code=PARK-EAST-12-A\nmonth=2024-07\ntariff=S3\ncaps=0,0,0,0\nprogramme=none\nflex=0\nrun=2976,4\n"
+        ),
         Outcome::Printed(141)
     ))
 }

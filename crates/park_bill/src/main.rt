@@ -8,6 +8,7 @@ use std::io::Write;
 
 // The readings of a month of 31 days, and the bytes that suffice for every print.
 const READINGS: usize = 2_976;
+
 const PRINT_ROOM: usize = 512;
 
 // Carries out the job and writes what it came to.

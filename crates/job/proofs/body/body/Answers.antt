@@ -38,8 +38,8 @@ returns-in-Err c =
     record {
       ends = λ room. let P : Ending → Type 0 = λ x. Halts x (sheet-model after) (c .in-Err .stop) in subst P (c .loop-rest .inv .0 room) (does .goes room);
       rest =
-        does .rest
-        ∙ kept-on (sheet-storage (c .args .sheet .now)) (sheet-storage before) (sheet-held before) (sheet-held after) (does .grows) (c .loop-rest .inv .3);
+          does .rest
+          ∙ kept-on (sheet-storage (c .args .sheet .now)) (sheet-storage before) (sheet-held before) (sheet-held after) (does .grows) (c .loop-rest .inv .3);
       named = does .named ∙ c .loop-rest .inv .4;
     }
 
@@ -48,8 +48,8 @@ returns c =
     let none : length (c .loop-rest .rest .now) ≡ 0 = eqb-true _ _ (sym (c .loop-rest-test .ensures tt)) in
     record {
       ends =
-        λ room. sym (c .loop-rest .inv .0 room)
-        ∙ ends (c .loop-rest .line) (said (c .loop-rest .rest .now)) (said-nothing (c .loop-rest .rest .now) none) (c .loop-rest .inv .1) room (sheet-model (c .loop-rest .sheet));
+          λ room. sym (c .loop-rest .inv .0 room)
+          ∙ ends (c .loop-rest .line) (said (c .loop-rest .rest .now)) (said-nothing (c .loop-rest .rest .now) none) (c .loop-rest .inv .1) room (sheet-model (c .loop-rest .sheet));
       rest = c .loop-rest .inv .3;
       named = c .loop-rest .inv .4;
     }

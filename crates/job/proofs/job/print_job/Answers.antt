@@ -92,9 +92,9 @@ returns-in-Err-body c =
       answer = ap (λ w. printed-bytes (stopped (length (c .args .buffer .now)) E w)) (sym why);
       written = ap (λ w. buffer-after (stopped (length (c .args .buffer .now)) E w) (c .args .buffer .now)) (sym why);
       stored =
-        by-way (sheet-storage end) (search needs)
-        (filled end (c .args .storage .now) (c .in-Err-body .ensures tt .rest ∙ ap (drop (sheet-held end)) (c .open-sheet .ensures .untouched))
-        ∙ in-front (sheet-model end .readings) (E .sheet .readings) (c .args .storage .now) (sym left));
+          by-way (sheet-storage end) (search needs)
+          (filled end (c .args .storage .now) (c .in-Err-body .ensures tt .rest ∙ ap (drop (sheet-held end)) (c .open-sheet .ensures .untouched))
+          ∙ in-front (sheet-model end .readings) (E .sheet .readings) (c .args .storage .now) (sym left));
     }
 
 pub returns : need.returns
@@ -122,7 +122,7 @@ returns c =
       answer = c .print-sheet .ensures .answer ∙ ap (λ x. printed-bytes (print-of (length (c .args .buffer .now)) x)) (sym done);
       written = c .print-sheet .ensures .written ∙ ap (λ x. buffer-after (print-of (length (c .args .buffer .now)) x) (c .args .buffer .now)) (sym done);
       stored =
-        by-way (sheet-storage end) (search needs)
-        (filled end (c .args .storage .now) (c .in-rest .ensures tt .rest ∙ ap (drop (sheet-held end)) (c .open-sheet .ensures .untouched))
-        ∙ ap (λ x. storage-after x (c .args .storage .now)) (sym done));
+          by-way (sheet-storage end) (search needs)
+          (filled end (c .args .storage .now) (c .in-rest .ensures tt .rest ∙ ap (drop (sheet-held end)) (c .open-sheet .ensures .untouched))
+          ∙ ap (λ x. storage-after x (c .args .storage .now)) (sym done));
     }
