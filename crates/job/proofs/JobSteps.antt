@@ -1,11 +1,10 @@
 -- How a job goes on from line to line. Assumes nothing.
-use mathlib.Core.Path.{_≡_, refl, sym, ap, _∙_}
-use mathlib.Core.Bool.{cond}
+use mathlib.Core.Path.{_≡_, ap, _∙_}
 use mathlib.Core.List.{List, [], _∷_}
 use Prim.Native.Nat.{ℕ, _≤_}
 use Rattle.std.proofs.shelf.Tests.{le-leb, lt-leb, cond-true, cond-false}
 use Rattle.std.specs.declared.option.Option.{Option}
-use Rattle.std.specs.declared.option.Option.the-variants.{Some, None}
+use Rattle.std.specs.declared.option.Option.the-variants.{None}
 use Rattle.readings.specs.Sheets.{SheetModel}
 use Rattle.calendar.specs.declared.refusal.Refusal.the-variants.{MalformedLine, JobIncomplete}
 use Rattle.job.specs.declared.outcome.Stop.the-variants.{Refused}

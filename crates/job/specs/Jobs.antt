@@ -1,6 +1,6 @@
 -- What a job comes to. Assumes nothing.
 use mathlib.Core.Path.{_≡_}
-use mathlib.Core.Bool.{Bool, cond}
+use mathlib.Core.Bool.{cond}
 use mathlib.Core.List.{List, [], _∷_, _++_}
 use Prim.Native.Nat.{ℕ, suc, min, _≤_}
 use lib.Dec.{eqb, leb, ltb}
