@@ -1,6 +1,5 @@
--- What a job holds whose lines are granted, from the first on. Assumes nothing.
-use mathlib.Core.Path.{_≡_, refl, sym, ap, _∙_}
-use mathlib.Core.Bool.{cond}
+-- How a job ends whose code line is granted. Assumes nothing.
+use mathlib.Core.Path.{_≡_, ap, _∙_}
 use mathlib.Core.List.{List, [], _∷_}
 use Prim.Native.Nat.{ℕ, _≤_}
 use lib.ListN.{length}
@@ -16,30 +15,27 @@ use Rattle.readings.specs.Sheets.{opened}
 use Rattle.job.specs.declared.outcome.Stop.{Stop}
 use Rattle.job.specs.declared.outcome.Stop.the-variants.{Refused}
 use Rattle.job.specs.JobLines.{said}
-use Rattle.job.specs.Jobs.{JobState, opening, book-places, job-from, job-end, unless, Goes}
+use Rattle.job.specs.Jobs.{Ending, ending, job-from, job-ending, unless}
 use Rattle.job.specs.Statements.{Says, code, month}
 
 module _ (xs : List ℕ) (room : ℕ) (bytes : List ℕ) (more : List (Option Says)) (year number : ℕ) (rest : List (Option Says)) (short : length xs ≤ 60000) (first : said xs ≡ Some (code bytes) ∷ more) (a-code : code-refusal bytes ≡ None) (second : more ≡ Some (month year number) ∷ rest) where
-  -- the job goes on so, where it is granted
-  abbrev going : ℕ → List (Option Says) → Result JobState Stop → Result JobState Stop
-  going n lines r = elim r [ Ok t ↦ job-from room book-places n t lines | Err e ↦ Err e ]
+  -- the sheet goes on so, where it is granted
+  abbrev going : SheetModel → ℕ → List (Option Says) → Result SheetModel Stop → Ending
+  going s n lines r = elim r [ Ok t ↦ job-from room n t lines | Err e ↦ ending s (Some e) ]
 
   -- the code line
-  at-month : job-end xs room ≡ job-from room book-places 2 (opening (opened bytes 0 0 room)) (Some (month year number) ∷ rest)
+  at-month : job-ending xs room ≡ job-from room 2 (opened bytes 0 0 room) (Some (month year number) ∷ rest)
   at-month =
       cond-false _ _ _ (le-ltb 60000 (length xs) short)
-      ∙ (ap (job-from room book-places 1 (opening (opened [] 0 0 room))) first
-      ∙ (ap (λ (o : Option Refusal). going 2 more (unless 1 o (opening (opened bytes 0 0 room)))) a-code
-      ∙ ap (job-from room book-places 2 (opening (opened bytes 0 0 room))) second))
+      ∙ (ap (job-from room 1 (opened [] 0 0 room)) first
+      ∙ (ap (λ (o : Option Refusal). going (opened [] 0 0 room) 2 more (unless 1 o (opened bytes 0 0 room))) a-code
+      ∙ ap (job-from room 2 (opened bytes 0 0 room)) second))
 
   -- a month line that is refused
-  pub month-refused : (e : Refusal) → month-refusal year number ≡ Some e → job-end xs room ≡ Err (Refused e 2)
-  month-refused e refused = at-month ∙ ap (λ (o : Option Refusal). going 3 rest (unless 2 o (opening (opened bytes year number room)))) refused
+  pub month-refused : (e : Refusal) → month-refusal year number ≡ Some e → job-ending xs room ≡ ending (opened bytes 0 0 room) (Some (Refused e 2))
+  month-refused e refused = at-month ∙ ap (λ (o : Option Refusal). going (opened bytes 0 0 room) 3 rest (unless 2 o (opened bytes year number room))) refused
 
-  -- the month is granted, and the lines behind it lead to what the job holds
-  pub job-runs : (last : List (Option Says)) (begun end : JobState) (places : ℕ) → places ≡ book-places → month-refusal year number ≡ None → Goes 3 rest 7 last → begun ≡ opening (opened bytes year number room) → ((r : ℕ) → job-from r places 7 begun last ≡ Ok end) → job-end xs room ≡ Ok end
-  job-runs last begun end places all granted goes opens ends =
-      at-month
-      ∙ (ap (λ (o : Option Refusal). going 3 rest (unless 2 o (opening (opened bytes year number room)))) granted
-      ∙ (goes room book-places (opening (opened bytes year number room))
-      ∙ (ap (λ s. job-from room book-places 7 s last) (sym opens) ∙ (ap (λ n. job-from room n 7 begun last) (sym all) ∙ ends room))))
+  -- the month is granted, and the lines behind it decide
+  pub job-runs : month-refusal year number ≡ None → job-ending xs room ≡ job-from room 3 (opened bytes year number room) rest
+  job-runs granted =
+      at-month ∙ ap (λ (o : Option Refusal). going (opened bytes 0 0 room) 3 rest (unless 2 o (opened bytes year number room))) granted

@@ -1,8 +1,8 @@
 // A job carried out, from its text to the printed bill.
 ghost use mathlib.Core.Path.{_≡_};
 ghost use lib.ListN.{length};
-ghost use Rattle.job.specs.JobModels.{job-model};
-ghost use Rattle.job.specs.Jobs.{and-then, bill-of, fitting, printed-bytes, buffer-after, job-print, outcome-of, print-within};
+ghost use Rattle.readings.specs.SheetModels.{sheet-model};
+ghost use Rattle.job.specs.Jobs.{and-then, bill-of, fitting, printed-bytes, buffer-after, job-print, outcome-of, print-within, job-ending, storage-after};
 use crate::body::body;
 use crate::header::code_line;
 use crate::header::month_line;
@@ -55,6 +55,7 @@ fn print_sheet(
 fn print_job(text: &[u8], storage: &mut [u32], buffer: &mut [u8]) -> Result<usize, Stop>
     ensures answer { λ r. ⌜ r ≡ printed-bytes (job-print (now (text .entry)) (length (now (storage .entry))) (length (now (buffer .entry)))) ⌝ }
     ensures written { λ _. ⌜ now (buffer .exit) ≡ buffer-after (job-print (now (text .entry)) (length (now (storage .entry))) (length (now (buffer .entry)))) (now (buffer .entry)) ⌝ }
+    ensures stored { λ _. ⌜ now (storage .exit) ≡ storage-after (job-ending (now (text .entry)) (length (now (storage .entry)))) (now (storage .entry)) ⌝ }
 {
     if text.len() > LONGEST_TEXT {
         return Err(Stop::Refused {
@@ -74,17 +75,18 @@ fn print_job(text: &[u8], storage: &mut [u32], buffer: &mut [u8]) -> Result<usiz
     };
     let rest = terms(rest)?;
     let mut sheet = Sheet::open(code, month, storage);
-    let mut places = [OffPeakDay::first(); BOOK_PLACES];
-    let mut off_peak = Book::open(&mut places);
-    body(&mut sheet, &mut off_peak, rest)?;
-    print_sheet(&sheet, &off_peak, buffer)
+    if let Err(stop) = body(&mut sheet, rest) {
+        return Err(stop);
+    }
+    print_sheet(&sheet, buffer)
 }
 
 // Carries out a job over lent storage for its readings, and prints its bill into the buffer. The buffer holds what it held
-// unless the outcome is a print.
+// unless the outcome is a print, and the storage what it held behind the readings of the runs that were granted.
 pub fn run_job(text: &[u8], storage: &mut [u32], buffer: &mut [u8]) -> Outcome
     ensures answer { λ r. ⌜ r ≡ outcome-of (printed-bytes (job-print (now (text .entry)) (length (now (storage .entry))) (length (now (buffer .entry))))) ⌝ }
     ensures written { λ _. ⌜ now (buffer .exit) ≡ buffer-after (job-print (now (text .entry)) (length (now (storage .entry))) (length (now (buffer .entry)))) (now (buffer .entry)) ⌝ }
+    ensures stored { λ _. ⌜ now (storage .exit) ≡ storage-after (job-ending (now (text .entry)) (length (now (storage .entry)))) (now (storage .entry)) ⌝ }
     ensures within { λ r. ⌜ print-within r (length (now (buffer .entry))) ⌝ }
 {
     match print_job(text, storage, buffer) {

@@ -1,8 +1,5 @@
 use mathlib.Core.Path.{_≡_, sym, ap, _∙_}
-use mathlib.Core.Bool.{true, false}
-use mathlib.Core.List.{List, [], _∷_}
-use Prim.Native.Nat.{ℕ}
-use lib.Dec.{eqb}
+use mathlib.Core.List.{[], _∷_}
 use lib.ListN.{length}
 use Rattle.std.proofs.shelf.Tests.{eqb-true, eqb-false}
 use Rattle.job.specs.JobLines.{said}

@@ -1,34 +1,47 @@
 use mathlib.Core.Path.{_≡_, sym, ap, _∙_}
-use mathlib.Core.List.{List}
+use mathlib.Core.List.{List, _++_}
 use Prim.Native.Nat.{ℕ, _≤_}
 use native.Mathlib.Omega.{arith}
 use borrow.Author.Needs.{needs}
-use lib.ListN.{length}
+use lib.ListN.{length, take, drop}
+use Rattle.std.specs.declared.option.Option.{Option}
+use Rattle.std.specs.declared.option.Option.the-variants.{Some, None}
 use Rattle.std.specs.declared.result.Result.{Result}
-use Rattle.std.specs.declared.result.Result.the-variants.{Ok, Err}
-use Rattle.calendar.specs.declared.off_peak.OffPeakDay.{OffPeakDay}
+use Rattle.std.proofs.shelf.Lists.{take-append-drop, length-take-le}
+use Rattle.readings.specs.declared.sheet.Sheet.{Sheet}
 use Rattle.readings.specs.Sheets.{SheetModel, opened}
-use Rattle.calendar.specs.BookModels.{book-storage}
+use Rattle.readings.specs.SheetModels.{sheet-model, sheet-storage, sheet-held}
 use Rattle.job.specs.declared.outcome.Stop.{Stop}
-use Rattle.job.specs.declared.outcome.Stop.the-variants.{Refused}
 use Rattle.job.specs.JobLines.{said}
-use Rattle.job.specs.JobModels.{job-model}
-use Rattle.job.specs.Jobs.{JobState, and-then, bill-of, fitting, printed-bytes, buffer-after}
+use Rattle.job.specs.Jobs.{Ending, ending, job-from, job-ending, Goes, whole-sheet, and-then, bill-of, fitting, print-of, printed-bytes, buffer-after, storage-after}
+use Rattle.job.specs.Statements.{Says}
 use Rattle.job.proofs.JobRuns.{month-refused, job-runs}
 use Rattle.job.proofs.job.print_job.Needs as need
-
--- the print of a job whose sheet is known
-abbrev print-of : ℕ → Result JobState Stop → Result (List ℕ) Stop
-print-of room r = and-then r (λ s. and-then (bill-of s) (fitting room))
 
 -- a sheet opened with a granted code and a granted month
 opened-so : (s : SheetModel) (code bytes : List ℕ) (y year m number room : ℕ) → s ≡ opened code y m room → code ≡ bytes → y ≡ year → m ≡ number → s ≡ opened bytes year number room
 opened-so s code bytes y year m number room e a b d =
     e ∙ (ap (λ x. opened x y m room) a ∙ (ap (λ x. opened bytes x m room) b ∙ ap (λ x. opened bytes year x room) d))
 
--- both of what a job holds
-state-so : (s t : SheetModel) (xs ys : List OffPeakDay) → s ≡ t → xs ≡ ys → _≡_ {A = JobState} (record { sheet = s; off-peak = xs }) (record { sheet = t; off-peak = ys })
-state-so s t xs ys p q = cc
+-- the storage of a sheet that kept what stood behind its readings
+filled : (s : Sheet) (held : List ℕ) → drop (sheet-held s) (sheet-storage s) ≡ drop (sheet-held s) held → sheet-storage s ≡ sheet-model s .readings ++ drop (length (sheet-model s .readings)) held
+filled s held e =
+    let low : sheet-held s ≤ length (sheet-storage s) = omega arith in
+    let long = length-take-le (sheet-held s) (sheet-storage s) low in
+    sym (take-append-drop (sheet-held s) (sheet-storage s))
+    ∙ ap (λ l. take (sheet-held s) (sheet-storage s) ++ l) (e ∙ ap (λ n. drop n held) (sym long))
+
+-- by way of another list
+by-way : {X : List ℕ} (xs : List ℕ) {ys : List ℕ} → X ≡ xs → xs ≡ ys → X ≡ ys
+by-way xs e f = e ∙ f
+
+-- the readings of an ending, in front of what the storage held
+in-front : (rs ss held : List ℕ) → rs ≡ ss → rs ++ drop (length rs) held ≡ ss ++ drop (length ss) held
+in-front rs ss held e = ap (λ l. l ++ drop (length l) held) e
+
+-- what a stopped job prints
+abbrev stopped : ℕ → Ending → Option Stop → Result (List ℕ) Stop
+stopped room e why = and-then (whole-sheet (e .sheet) why) (λ s. and-then (bill-of s) (fitting room))
 
 pub returns-in-Err-new : need.returns-in-Err-new
 returns-in-Err-new c =
@@ -41,28 +54,75 @@ returns-in-Err-new c =
     (c .in-Err-new .refusal)
     (c .in-Err-new .ensures tt) in
     record {
-      answer = ap (λ r. printed-bytes (print-of (length (c .args .buffer .now)) r)) (sym e);
-      written = ap (λ r. buffer-after (print-of (length (c .args .buffer .now)) r) (c .args .buffer .now)) (sym e);
+      answer = ap (λ x. printed-bytes (print-of (length (c .args .buffer .now)) x)) (sym e);
+      written = ap (λ x. buffer-after (print-of (length (c .args .buffer .now)) x) (c .args .buffer .now)) (sym e);
+      stored = ap (λ x. storage-after x (c .args .storage .now)) (sym e);
     }
 
-pub returns : need.returns
-returns c =
+-- how the job ends once its sheet is open: as its body does
+body-decides : (xs : List ℕ) (room : ℕ) (bytes : List ℕ) (year number : ℕ) (rest last : List (Option Says)) (begun : SheetModel) → job-ending xs room ≡ job-from room 3 (opened bytes year number room) rest → Goes 3 rest 7 last → begun ≡ opened bytes year number room → job-ending xs room ≡ job-from room 7 begun last
+body-decides xs room bytes year number rest last begun e goes same =
+    e ∙ (goes room (opened bytes year number room) ∙ ap (λ s. job-from room 7 s last) (sym same))
+
+pub returns-in-Err-body : need.returns-in-Err-body
+returns-in-Err-body c =
+    let room = length (c .args .storage .now) in
+    let bytes = c .in-Continue-bytes .bytes .now in
+    let year = c .in-Continue-year .year in
+    let number = c .in-Continue-year .number in
+    let begun = sheet-model (c .open-sheet .result) in
+    let same : begun ≡ opened bytes year number room =
+    opening begun _ bytes _ year _ number room (c .open-sheet .ensures .model) (c .in-Ok .ensures tt .1) (c .in-Ok-new .ensures tt .1) (c .in-Ok-new .ensures tt .2) in
     let e =
-    job-runs (c .args .text .now) (length (c .args .storage .now)) (c .in-Continue-bytes .bytes .now) (said (c .in-Continue-bytes .rest .now)) (c .in-Continue-year .year) (c .in-Continue-year .number) (said (c .in-Continue-year .rest .now))
+    body-decides (c .args .text .now) room bytes year number (said (c .in-Continue-year .rest .now)) (said (c .in-Continue-rest .rest .now)) begun
+    (job-runs (c .args .text .now) room bytes (said (c .in-Continue-bytes .rest .now)) year number (said (c .in-Continue-year .rest .now))
     (c .if-text-gt-LONGEST-TEXT .left)
     (c .in-Continue-bytes .ensures tt .0)
     (c .in-Ok .ensures tt .0)
     (c .in-Continue-year .ensures tt .0)
-    (said (c .in-Continue-rest .rest .now))
-    (job-model (c .open-sheet .result) (c .open-off-peak .result))
-    (job-model (c .body .last .sheet) (c .body .last .off-peak))
-    (length (book-storage (c .open-off-peak .result)))
-    (let whole = ap length (c .open-off-peak .ensures .untouched) in search needs)
-    (c .in-Ok-new .ensures tt .0)
+    (c .in-Ok-new .ensures tt .0))
     (c .in-Continue-rest .ensures tt .0)
-    (state-so _ _ _ _ (opened-so _ _ _ _ _ _ _ _ (c .open-sheet .ensures .model) (c .in-Ok .ensures tt .1) (c .in-Ok-new .ensures tt .1) (c .in-Ok-new .ensures tt .2)) (c .open-off-peak .ensures .entries))
-    (c .in-Continue-body .ensures tt) in
+    same in
+    let end = c .body .last .sheet in
+    let halts = c .in-Err-body .ensures tt .ends room in
+    let why : job-ending (c .args .text .now) room .why ≡ Some (c .in-Err-body .stop) = ap (λ (x : Ending). x .why) e ∙ halts .0 in
+    let left : job-ending (c .args .text .now) room .sheet .readings ≡ sheet-model end .readings = ap (λ (x : Ending). x .sheet .readings) e ∙ halts .1 in
+    let E = job-ending (c .args .text .now) room in
     record {
-      answer = c .print-sheet .ensures .answer ∙ ap (λ r. printed-bytes (print-of (length (c .args .buffer .now)) r)) (sym e);
-      written = c .print-sheet .ensures .written ∙ ap (λ r. buffer-after (print-of (length (c .args .buffer .now)) r) (c .args .buffer .now)) (sym e);
+      answer = ap (λ w. printed-bytes (stopped (length (c .args .buffer .now)) E w)) (sym why);
+      written = ap (λ w. buffer-after (stopped (length (c .args .buffer .now)) E w) (c .args .buffer .now)) (sym why);
+      stored =
+          by-way (sheet-storage end) (search needs)
+          (filled end (c .args .storage .now) (c .in-Err-body .ensures tt .rest ∙ ap (drop (sheet-held end)) (c .open-sheet .ensures .untouched))
+          ∙ in-front (sheet-model end .readings) (E .sheet .readings) (c .args .storage .now) (sym left));
+    }
+
+pub returns : need.returns
+returns c =
+    let room = length (c .args .storage .now) in
+    let bytes = c .in-Continue-bytes .bytes .now in
+    let year = c .in-Continue-year .year in
+    let number = c .in-Continue-year .number in
+    let begun = sheet-model (c .open-sheet .result) in
+    let same : begun ≡ opened bytes year number room =
+    opening begun _ bytes _ year _ number room (c .open-sheet .ensures .model) (c .in-Ok .ensures tt .1) (c .in-Ok-new .ensures tt .1) (c .in-Ok-new .ensures tt .2) in
+    let e =
+    body-decides (c .args .text .now) room bytes year number (said (c .in-Continue-year .rest .now)) (said (c .in-Continue-rest .rest .now)) begun
+    (job-runs (c .args .text .now) room bytes (said (c .in-Continue-bytes .rest .now)) year number (said (c .in-Continue-year .rest .now))
+    (c .if-text-gt-LONGEST-TEXT .left)
+    (c .in-Continue-bytes .ensures tt .0)
+    (c .in-Ok .ensures tt .0)
+    (c .in-Continue-year .ensures tt .0)
+    (c .in-Ok-new .ensures tt .0))
+    (c .in-Continue-rest .ensures tt .0)
+    same in
+    let end = c .body .last .sheet in
+    let done : job-ending (c .args .text .now) room ≡ ending (sheet-model end) None = e ∙ c .in-rest .ensures tt .ends room in
+    record {
+      answer = c .print-sheet .ensures .answer ∙ ap (λ x. printed-bytes (print-of (length (c .args .buffer .now)) x)) (sym done);
+      written = c .print-sheet .ensures .written ∙ ap (λ x. buffer-after (print-of (length (c .args .buffer .now)) x) (c .args .buffer .now)) (sym done);
+      stored =
+          by-way (sheet-storage end) (search needs)
+          (filled end (c .args .storage .now) (c .in-rest .ensures tt .rest ∙ ap (drop (sheet-held end)) (c .open-sheet .ensures .untouched))
+          ∙ ap (λ x. storage-after x (c .args .storage .now)) (sym done));
     }

@@ -1,8 +1,8 @@
-use mathlib.Core.Path.{_≡_, sym, ap, _∙_}
-use mathlib.Core.List.{List, _++_}
+use mathlib.Core.Path.{_≡_, ap, _∙_}
+use mathlib.Core.List.{List}
 use Prim.Native.Nat.{ℕ, _+_, _-_, _≤_}
 use native.Mathlib.Omega.{arith}
-use lib.ListN.{length, drop}
+use lib.ListN.{length}
 use Rattle.std.proofs.shelf.Lists.{length-append, length-drop}
 use Rattle.std.specs.declared.result.Result.{Result}
 use Rattle.std.specs.declared.result.Result.the-variants.{Ok, Err}
@@ -24,5 +24,6 @@ returns-in-Ok c =
     record {
       answer = ap outcome-of (c .in-Ok .ensures tt .answer);
       written = c .in-Ok .ensures tt .written;
+      stored = c .in-Ok .ensures tt .stored;
       within = kept-within p (c .args .buffer .now) (c .print-job .last .buffer) (c .in-Ok .count) (c .in-Ok .ensures tt .answer) (c .in-Ok .ensures tt .written) (c .print-job .kept .buffer);
     }
