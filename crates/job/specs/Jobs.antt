@@ -73,39 +73,40 @@ abbrev pub line-step : ℕ → ℕ → ℕ → JobState → Option Says → Resu
 line-step room places n s None = Err (stop.Refused MalformedLine n)
 line-step room places n s (Some x) = cond (eqb (place-of x) (min n 7)) (step room places n s x) (Err (stop.Refused LineOutOfOrder n))
 
--- how a job's lines end: with the sheet that they leave, and why the job stopped, if it did
+-- how a job's lines end: with what the job then holds, and why it stopped, if it did
 pub record Ending : Type 0 where
-  pub sheet : SheetModel
+  pub state : JobState
   pub why : Option Stop
 
-abbrev pub ending : SheetModel → Option Stop → Ending
-ending s why = record { sheet = s; why = why }
+abbrev pub ending : JobState → Option Stop → Ending
+ending s why = record { state = s; why = why }
 
 -- how the lines from line n on end; a job has its six first lines
-abbrev pub job-from : ℕ → ℕ → SheetModel → List (Option Says) → Ending
-job-from room n s [] = ending s (cond (leb n 6) (Some (stop.Refused JobIncomplete 0)) None)
-job-from room n s (line ∷ more) = elim (line-step room n s line) [ Ok t ↦ job-from room (suc n) t more | Err e ↦ ending s (Some e) ]
+abbrev pub job-from : ℕ → ℕ → ℕ → JobState → List (Option Says) → Ending
+job-from room places n s [] = ending s (cond (leb n 6) (Some (stop.Refused JobIncomplete 0)) None)
+job-from room places n s (line ∷ more) = elim (line-step room places n s line) [ Ok t ↦ job-from room places (suc n) t more | Err e ↦ ending s (Some e) ]
+
+-- a job's books have 64 places
+abbrev pub book-places : ℕ
+book-places = 64
 
 -- how a whole job text ends, of at most 60,000 bytes
 abbrev pub job-ending : List ℕ → ℕ → Ending
 job-ending text room =
-    cond (ltb 60000 (length text)) (ending (opened [] 0 0 room) (Some (stop.Refused JobTextTooLong 0))) (job-from room 1 (opened [] 0 0 room) (said text))
+    cond (ltb 60000 (length text))
+    (ending (opening (opened [] 0 0 room)) (Some (stop.Refused JobTextTooLong 0)))
+    (job-from room book-places 1 (opening (opened [] 0 0 room)) (said text))
 
--- the sheet of a job that did not stop
-abbrev pub whole-sheet : SheetModel → Option Stop → Result SheetModel Stop
-whole-sheet s None = Ok s
-whole-sheet s (Some e) = Err e
-
--- what a whole job text, of at most 60,000 bytes, leads to
-abbrev pub job-end : List ℕ → ℕ → Result JobState Stop
-job-end text room =
-    cond (ltb 60000 (length text)) (Err (stop.Refused JobTextTooLong 0)) (job-from room book-places 1 (opening (opened [] 0 0 room)) (said text))
+-- what a job holds that did not stop
+abbrev pub whole-state : JobState → Option Stop → Result JobState Stop
+whole-state s None = Ok s
+whole-state s (Some e) = Err e
 
 -- the printed bill of what a job holds, issued with serial 1; a refused quote names line 0
 abbrev pub bill-of : JobState → Result (List ℕ) Stop
 bill-of s =
-    elim (plain-quote-in s3-meaning (s .year) (s .month) [] (s .readings)) [
-      | Ok items ↦ Ok (rendered 1 (s .code) items)
+    elim (plain-quote s3-meaning (s .sheet .year) (s .sheet .month) (s .off-peak) (s .sheet .readings)) [
+      | Ok items ↦ Ok (rendered 1 (s .sheet .code) items)
       | Err e ↦ Err (stop.Refused e 0)
     ]
 
@@ -120,7 +121,7 @@ and-then (Err e) next = Err e
 
 -- what a job that ends so prints into a buffer with so much room, or why it does not
 abbrev pub print-of : ℕ → Ending → Result (List ℕ) Stop
-print-of room e = and-then (whole-sheet (e .sheet) (e .why)) (λ s. and-then (bill-of s) (fitting room))
+print-of room e = and-then (whole-state (e .state) (e .why)) (λ s. and-then (bill-of s) (fitting room))
 
 -- what a job prints, over storage and a buffer with so much room, or why it does not
 abbrev pub job-print : List ℕ → ℕ → ℕ → Result (List ℕ) Stop
@@ -144,7 +145,7 @@ buffer-after (Err e) held = held
 
 -- what the storage holds then: the readings of the runs that were granted, and behind them what it held
 abbrev pub storage-after : Ending → List ℕ → List ℕ
-storage-after e held = e .sheet .readings ++ drop (length (e .sheet .readings)) held
+storage-after e held = e .state .sheet .readings ++ drop (length (e .state .sheet .readings)) held
 
 -- a print keeps within a buffer of so many bytes
 abbrev pub print-within : Outcome → ℕ → Type 0
@@ -154,12 +155,12 @@ print-within (outcome.Unsupported n) room = Unit {0}
 
 -- a job stopped for this reason, with the readings of this sheet
 abbrev pub Halts : Ending → SheetModel → Stop → Type 0
-Halts e s x = (e .why ≡ Some x) × (e .sheet .readings ≡ s .readings)
+Halts e s x = (e .why ≡ Some x) × (e .state .sheet .readings ≡ s .readings)
 
--- a job stops so, from line n with these lines on, whatever the sheet, and adds no reading
+-- a job stops so, from line n with these lines on, whatever it holds, and adds no reading
 abbrev pub Stops : ℕ → List (Option Says) → Stop → Type 0
-Stops n lines x = (room : ℕ) (s : SheetModel) → Halts (job-from room n s lines) s x
+Stops n lines x = (room places : ℕ) (s : JobState) → Halts (job-from room places n s lines) (s .sheet) x
 
--- the job from line n with these lines on ends as it ends from line m with those lines on, with the same sheet
+-- the job from line n with these lines on ends as it ends from line m with those lines on, holding the same
 abbrev pub Goes : ℕ → List (Option Says) → ℕ → List (Option Says) → Type 0
 Goes n lines m more = (room places : ℕ) (s : JobState) → job-from room places n s lines ≡ job-from room places m s more

@@ -1,7 +1,7 @@
 // A job carried out, from its text to the printed bill.
 ghost use mathlib.Core.Path.{_≡_};
 ghost use lib.ListN.{length};
-ghost use Rattle.readings.specs.SheetModels.{sheet-model};
+ghost use Rattle.job.specs.JobModels.{job-model};
 ghost use Rattle.job.specs.Jobs.{and-then, bill-of, fitting, printed-bytes, buffer-after, job-print, outcome-of, print-within, job-ending, storage-after};
 use crate::body::body;
 use crate::header::code_line;
@@ -75,10 +75,12 @@ fn print_job(text: &[u8], storage: &mut [u32], buffer: &mut [u8]) -> Result<usiz
     };
     let rest = terms(rest)?;
     let mut sheet = Sheet::open(code, month, storage);
-    if let Err(stop) = body(&mut sheet, rest) {
+    let mut places = [OffPeakDay::first(); BOOK_PLACES];
+    let mut off_peak = Book::open(&mut places);
+    if let Err(stop) = body(&mut sheet, &mut off_peak, rest) {
         return Err(stop);
     }
-    print_sheet(&sheet, buffer)
+    print_sheet(&sheet, &off_peak, buffer)
 }
 
 // Carries out a job over lent storage for its readings, and prints its bill into the buffer. The buffer holds what it held

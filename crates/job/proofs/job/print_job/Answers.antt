@@ -1,5 +1,5 @@
 use mathlib.Core.Path.{_≡_, sym, ap, _∙_}
-use mathlib.Core.List.{List, _++_}
+use mathlib.Core.List.{List, [], _++_}
 use Prim.Native.Nat.{ℕ, _≤_}
 use native.Mathlib.Omega.{arith}
 use borrow.Author.Needs.{needs}
@@ -8,12 +8,15 @@ use Rattle.std.specs.declared.option.Option.{Option}
 use Rattle.std.specs.declared.option.Option.the-variants.{Some, None}
 use Rattle.std.specs.declared.result.Result.{Result}
 use Rattle.std.proofs.shelf.Lists.{take-append-drop, length-take-le}
+use Rattle.calendar.specs.BookModels.{book-entries, book-storage}
+use Rattle.calendar.specs.declared.off_peak.OffPeakDay.{OffPeakDay}
 use Rattle.readings.specs.declared.sheet.Sheet.{Sheet}
 use Rattle.readings.specs.Sheets.{SheetModel, opened}
 use Rattle.readings.specs.SheetModels.{sheet-model, sheet-storage, sheet-held}
 use Rattle.job.specs.declared.outcome.Stop.{Stop}
 use Rattle.job.specs.JobLines.{said}
-use Rattle.job.specs.Jobs.{Ending, ending, job-from, job-ending, Goes, whole-sheet, and-then, bill-of, fitting, print-of, printed-bytes, buffer-after, storage-after}
+use Rattle.job.specs.JobModels.{job-model}
+use Rattle.job.specs.Jobs.{opening, book-places, Ending, ending, job-from, job-ending, Goes, whole-state, and-then, bill-of, fitting, print-of, printed-bytes, buffer-after, storage-after}
 use Rattle.job.specs.Statements.{Says}
 use Rattle.job.proofs.JobRuns.{month-refused, job-runs}
 use Rattle.job.proofs.job.print_job.Needs as need
@@ -41,7 +44,7 @@ in-front rs ss held e = ap (λ l. l ++ drop (length l) held) e
 
 -- what a stopped job prints
 abbrev stopped : ℕ → Ending → Option Stop → Result (List ℕ) Stop
-stopped room e why = and-then (whole-sheet (e .sheet) why) (λ s. and-then (bill-of s) (fitting room))
+stopped room e why = and-then (whole-state (e .state) why) (λ s. and-then (bill-of s) (fitting room))
 
 pub returns-in-Err-new : need.returns-in-Err-new
 returns-in-Err-new c =
@@ -59,10 +62,14 @@ returns-in-Err-new c =
       stored = ap (λ x. storage-after x (c .args .storage .now)) (sym e);
     }
 
--- how the job ends once its sheet is open: as its body does
-body-decides : (xs : List ℕ) (room : ℕ) (bytes : List ℕ) (year number : ℕ) (rest last : List (Option Says)) (begun : SheetModel) → job-ending xs room ≡ job-from room 3 (opened bytes year number room) rest → Goes 3 rest 7 last → begun ≡ opened bytes year number room → job-ending xs room ≡ job-from room 7 begun last
-body-decides xs room bytes year number rest last begun e goes same =
-    e ∙ (goes room (opened bytes year number room) ∙ ap (λ s. job-from room 7 s last) (sym same))
+-- how the job ends once its sheet and book are open: as its body does
+body-decides : (xs : List ℕ) (room places : ℕ) (bytes : List ℕ) (year number : ℕ) (rest last : List (Option Says)) (begun : SheetModel) (booked : List OffPeakDay) → job-ending xs room ≡ job-from room book-places 3 (opening (opened bytes year number room)) rest → Goes 3 rest 7 last → begun ≡ opened bytes year number room → booked ≡ [] → places ≡ book-places → job-ending xs room ≡ job-from room places 7 (record { sheet = begun; off-peak = booked }) last
+body-decides xs room places bytes year number rest last begun booked e goes same empty all =
+    e
+    ∙ (goes room book-places (opening (opened bytes year number room))
+    ∙ (ap (λ s. job-from room book-places 7 (opening s) last) (sym same)
+    ∙ (ap (λ b. job-from room book-places 7 (record { sheet = begun; off-peak = b }) last) (sym empty)
+    ∙ ap (λ n. job-from room n 7 (record { sheet = begun; off-peak = booked }) last) (sym all))))
 
 pub returns-in-Err-body : need.returns-in-Err-body
 returns-in-Err-body c =
@@ -72,9 +79,9 @@ returns-in-Err-body c =
     let number = c .in-Continue-year .number in
     let begun = sheet-model (c .open-sheet .result) in
     let same : begun ≡ opened bytes year number room =
-    opening begun _ bytes _ year _ number room (c .open-sheet .ensures .model) (c .in-Ok .ensures tt .1) (c .in-Ok-new .ensures tt .1) (c .in-Ok-new .ensures tt .2) in
+    opened-so begun _ bytes _ year _ number room (c .open-sheet .ensures .model) (c .in-Ok .ensures tt .1) (c .in-Ok-new .ensures tt .1) (c .in-Ok-new .ensures tt .2) in
     let e =
-    body-decides (c .args .text .now) room bytes year number (said (c .in-Continue-year .rest .now)) (said (c .in-Continue-rest .rest .now)) begun
+    body-decides (c .args .text .now) room (length (book-storage (c .open-off-peak .result))) bytes year number (said (c .in-Continue-year .rest .now)) (said (c .in-Continue-rest .rest .now)) begun (book-entries (c .open-off-peak .result))
     (job-runs (c .args .text .now) room bytes (said (c .in-Continue-bytes .rest .now)) year number (said (c .in-Continue-year .rest .now))
     (c .if-text-gt-LONGEST-TEXT .left)
     (c .in-Continue-bytes .ensures tt .0)
@@ -82,11 +89,13 @@ returns-in-Err-body c =
     (c .in-Continue-year .ensures tt .0)
     (c .in-Ok-new .ensures tt .0))
     (c .in-Continue-rest .ensures tt .0)
-    same in
+    same
+    (c .open-off-peak .ensures .entries)
+    (let whole = ap length (c .open-off-peak .ensures .untouched) in search needs) in
     let end = c .body .last .sheet in
     let halts = c .in-Err-body .ensures tt .ends room in
     let why : job-ending (c .args .text .now) room .why ≡ Some (c .in-Err-body .stop) = ap (λ (x : Ending). x .why) e ∙ halts .0 in
-    let left : job-ending (c .args .text .now) room .sheet .readings ≡ sheet-model end .readings = ap (λ (x : Ending). x .sheet .readings) e ∙ halts .1 in
+    let left : job-ending (c .args .text .now) room .state .sheet .readings ≡ sheet-model end .readings = ap (λ (x : Ending). x .state .sheet .readings) e ∙ halts .1 in
     let E = job-ending (c .args .text .now) room in
     record {
       answer = ap (λ w. printed-bytes (stopped (length (c .args .buffer .now)) E w)) (sym why);
@@ -94,7 +103,7 @@ returns-in-Err-body c =
       stored =
           by-way (sheet-storage end) (search needs)
           (filled end (c .args .storage .now) (c .in-Err-body .ensures tt .rest ∙ ap (drop (sheet-held end)) (c .open-sheet .ensures .untouched))
-          ∙ in-front (sheet-model end .readings) (E .sheet .readings) (c .args .storage .now) (sym left));
+          ∙ in-front (sheet-model end .readings) (E .state .sheet .readings) (c .args .storage .now) (sym left));
     }
 
 pub returns : need.returns
@@ -105,9 +114,9 @@ returns c =
     let number = c .in-Continue-year .number in
     let begun = sheet-model (c .open-sheet .result) in
     let same : begun ≡ opened bytes year number room =
-    opening begun _ bytes _ year _ number room (c .open-sheet .ensures .model) (c .in-Ok .ensures tt .1) (c .in-Ok-new .ensures tt .1) (c .in-Ok-new .ensures tt .2) in
+    opened-so begun _ bytes _ year _ number room (c .open-sheet .ensures .model) (c .in-Ok .ensures tt .1) (c .in-Ok-new .ensures tt .1) (c .in-Ok-new .ensures tt .2) in
     let e =
-    body-decides (c .args .text .now) room bytes year number (said (c .in-Continue-year .rest .now)) (said (c .in-Continue-rest .rest .now)) begun
+    body-decides (c .args .text .now) room (length (book-storage (c .open-off-peak .result))) bytes year number (said (c .in-Continue-year .rest .now)) (said (c .in-Continue-rest .rest .now)) begun (book-entries (c .open-off-peak .result))
     (job-runs (c .args .text .now) room bytes (said (c .in-Continue-bytes .rest .now)) year number (said (c .in-Continue-year .rest .now))
     (c .if-text-gt-LONGEST-TEXT .left)
     (c .in-Continue-bytes .ensures tt .0)
@@ -115,9 +124,11 @@ returns c =
     (c .in-Continue-year .ensures tt .0)
     (c .in-Ok-new .ensures tt .0))
     (c .in-Continue-rest .ensures tt .0)
-    same in
+    same
+    (c .open-off-peak .ensures .entries)
+    (let whole = ap length (c .open-off-peak .ensures .untouched) in search needs) in
     let end = c .body .last .sheet in
-    let done : job-ending (c .args .text .now) room ≡ ending (sheet-model end) None = e ∙ c .in-rest .ensures tt .ends room in
+    let done : job-ending (c .args .text .now) room ≡ ending (job-model end (c .body .last .off-peak)) None = e ∙ c .in-rest .ensures tt .ends room in
     record {
       answer = c .print-sheet .ensures .answer ∙ ap (λ x. printed-bytes (print-of (length (c .args .buffer .now)) x)) (sym done);
       written = c .print-sheet .ensures .written ∙ ap (λ x. buffer-after (print-of (length (c .args .buffer .now)) x) (c .args .buffer .now)) (sym done);
