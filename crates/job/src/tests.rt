@@ -115,3 +115,25 @@ fn jobs_with_runs() -> Result<(), Fail> {
         Outcome::Printed(141)
     ))
 }
+
+#[test]
+fn jobs_with_off_peak_days() -> Result<(), Fail> {
+    check(matches!(
+        outcome(
+            b"code=A\nmonth=2024-07\ntariff=S3\ncaps=0,0,0,0\nprogramme=none\nflex=0\noff=2024-07-02\noff=2024-07-01\noff=2024-07-02\n"
+        ),
+        Outcome::Refused {
+            refusal: Refusal::KeyAlreadyBooked,
+            line: 9
+        }
+    ))?;
+    check(matches!(
+        outcome(
+            b"code=A\nmonth=2024-07\ntariff=S3\ncaps=0,0,0,0\nprogramme=none\nflex=0\noff=2024-07-32\n"
+        ),
+        Outcome::Refused {
+            refusal: Refusal::MalformedLine,
+            line: 7
+        }
+    ))
+}
