@@ -1,0 +1,5 @@
+pub mod Amounts
+pub mod BidLaws
+pub mod CallSums
+pub mod LayerLaws
+pub mod SumLaws
