@@ -140,3 +140,7 @@ uncalled s d slot e =
 pub five-day-uncalled : (s : SiteModel) (set : ℕ → Bool) (d : ℕ) (kw kw′ : Demand) → Same-uncalled s kw kw′ → five-day s kw set d ≡ five-day s kw′ set d
 five-day-uncalled s set d kw kw′ same =
     five-day-like s set d kw kw′ (λ e slot h t _. same e slot h (uncalled s e slot (latest-pass 5 (eligible s) d e t)))
+
+-- an average of equal sums over equally many slots
+pub same-average : (r kw kw′ n n′ : ℕ) → r ≡ kw * 1200 / n → kw ≡ kw′ → n ≡ n′ → r ≡ kw′ * 1200 / n′
+same-average r kw kw′ n n′ e p q = e ∙ ap (λ x. x * 1200 / n) p ∙ ap (λ y. kw′ * 1200 / y) q

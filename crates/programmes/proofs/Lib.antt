@@ -1,5 +1,7 @@
 pub mod Amounts
 pub mod BidLaws
 pub mod CallSums
+pub mod DaySlots
+pub mod Latest
 pub mod LayerLaws
 pub mod SumLaws

@@ -1,5 +1,6 @@
 pub mod Averages
 pub mod Bids
+pub mod LatestDays
 pub mod Layers
 pub mod Meanings
 pub mod Parts

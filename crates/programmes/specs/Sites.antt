@@ -1,8 +1,9 @@
 -- What a programme rests on besides its terms: the site, and the demand in each slot. Assumes nothing.
 use mathlib.Core.Bool.{Bool, true, false, cond, not, _&&_, _||_}
 use mathlib.Core.List.{List, _++_}
+use mathlib.Core.Path.{_≡_}
 use Prim.Native.Nat.{ℕ, _+_, _-_, _*_}
-use lib.ListN.{getD}
+use lib.ListN.{length, getD}
 use Rattle.std.specs.Options.{isSome}
 use Rattle.std.specs.declared.option.Option.{Option}
 use Rattle.std.specs.declared.option.Option.the-variants.{Some, None}
@@ -14,6 +15,7 @@ use Rattle.calendar.specs.declared.day.DayKind.the-variants as kind
 use Rattle.calendar.specs.declared.off_peak.OffPeakDay.{OffPeakDay}
 use Rattle.calendar.specs.Calls.{covers, call-of-day}
 use Rattle.calendar.specs.OffPeak.{kind-under}
+use Rattle.readings.specs.Sheets.{any-above}
 use Rattle.programmes.specs.Sums.{sum-below, some-below}
 
 -- the regular capacity in kW, the month's first day and its length, and the booked off-peak days and calls
@@ -32,6 +34,13 @@ Demand = ℕ → ℕ → ℕ
 -- the demand that the lead's readings and the month's say, 96 a day
 abbrev pub demand : List ℕ → List ℕ → Demand
 demand lead readings d slot = getD (lead ++ readings) (96 * d + slot) 0
+
+-- the readings that a quote may ask with: the whole lead and the whole month, none above the highest
+pub record Full (s : SiteModel) (lead readings : List ℕ) : Type 0 where
+  pub lead-long : length lead ≡ 2976
+  pub month-long : length readings ≡ 96 * s .days
+  pub lead-low : any-above lead ≡ false
+  pub month-low : any-above readings ≡ false
 
 -- the number of a day in the calendar
 abbrev pub day-number : SiteModel → ℕ → ℕ

@@ -1,4 +1,5 @@
 // Demand response: the programmes that a contract can have, what they credit and what they charge.
+pub mod average;
 pub mod part;
 pub mod site;
 
