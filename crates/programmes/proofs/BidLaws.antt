@@ -8,15 +8,16 @@ use native.Mathlib.Omega.{arith}
 use lib.Dec.{eqb, ltb}
 use Rattle.std.specs.declared.option.Option.{Option}
 use Rattle.std.specs.declared.option.Option.the-variants.{Some, None}
-use Rattle.std.proofs.shelf.Tests.{and-from, or-left, or-right, eq-eqb, cond-both, cases-bool, eqb-true, eqb-false, ltb-true, ltb-false}
+use Rattle.std.proofs.shelf.Tests.{and-from, or-left, or-right, eq-eqb, cond-both, cond-false, ne-eqb, cases-bool, eqb-true, eqb-false, ltb-true, ltb-false}
 use Rattle.std.proofs.shelf.Ways.{tells}
 use Rattle.calendar.specs.declared.call.Call.{Call}
 use Rattle.calendar.specs.declared.call.CallKind.the-variants.{Programme}
 use Rattle.calendar.specs.Calls.{covers}
 use Rattle.programmes.specs.Averages.{slots-in, average-in, averaged, among, five-day, worth}
-use Rattle.programmes.specs.Bids.{no-programme, bid, counted, reduced, is-missed, call-earns, call-owes, call-baseline, call-count, called-hours, missed-count, basic-rate, basic-credit, bid-named}
+use Rattle.programmes.specs.Bids.{no-programme, bid, counted, reduced, is-missed, call-earns, call-owes, call-baseline, call-count, called-hours, missed-count, basic-rate, basic-credit, bid-credit, bid-named}
 use Rattle.programmes.specs.Meanings.{Asked, ProgrammeLaws, BareLaws, Same-uncalled, Same-named, Nowhere-higher}
 use Rattle.programmes.specs.Sites.{SiteModel, Demand, call-at, for-call, sum-of-calls}
+use Rattle.programmes.specs.Sums.{sum-below}
 use Rattle.programmes.proofs.Amounts.{div-grows, worth-grows, worth-bounded, slots-few, average-like, average-grows, five-day-like, five-day-bounded, five-day-uncalled}
 use Rattle.programmes.proofs.CallSums.{for-each, calls-like, calls-grow, calls-bounded, some-call-at}
 
@@ -71,14 +72,38 @@ basic-falls reduction rate calls missed missed′ h =
             (λ _. div-grows _ _ calls (mul-le-mul-left x (omega arith)))))
     (cases-bool (eqb missed 0))
 
-basic-bounded : (reduction calls hours missed : ℕ) → reduction ≤ 40000 → basic-credit reduction (basic-rate calls hours) calls missed ≤ 1152000000
-basic-bounded reduction calls hours missed h =
-    let rate = basic-rate calls hours in
+pub basic-bounded : (reduction rate calls missed : ℕ) → reduction ≤ 40000 → rate ≤ 6000 → basic-credit reduction rate calls missed ≤ 1152000000
+basic-bounded reduction rate calls missed h low =
     let x = 4 * reduction * rate in
-    let low : rate ≤ 6000 = grind (arith, tells) in
     let p : x ≤ 4 * 40000 * 6000 = mul-le-mul (mul-le-mul-left 4 h) low in
     let q = share-most x calls missed in
     cond-both (eqb missed 0) (x * 6 / 5) (x * (calls - missed) / calls) (λ y. y ≤ 1152000000) (λ _. omega (arith, p)) (λ _. omega (arith, p, q))
+
+rate-low : (calls hours : ℕ) → basic-rate calls hours ≤ 6000
+rate-low calls hours = grind (arith, tells)
+
+-- the share of the calls that were not missed, as the code takes it
+pub basic-missed : (reduction rate calls missed r a b n m : ℕ) → a ≡ reduction → b ≡ rate → n ≡ calls - missed → m ≡ calls → (missed ≡ 0 → ⊥) → r ≡ 4 * a * b * n / m → r ≡ basic-credit reduction rate calls missed
+basic-missed reduction rate calls missed r a b n m ea eb en em some e =
+    e
+    ∙ ap (λ x. 4 * x * b * n / m) ea
+    ∙ ap (λ x. 4 * reduction * x * n / m) eb
+    ∙ ap (λ x. 4 * reduction * rate * x / m) en
+    ∙ ap (λ x. 4 * reduction * rate * (calls - missed) / x) em
+    ∙ sym (cond-false (eqb missed 0) (4 * reduction * rate * 6 / 5) (4 * reduction * rate * (calls - missed) / calls) (ne-eqb missed 0 some))
+
+-- the credit, as the code sums it up
+pub bid-sums : (reduction price : ℕ) (s : SiteModel) (kw : Demand) (k earned missed basic red rate count hours : ℕ) → k ≡ s .days → earned ≡ sum-below (λ j. for-call (call-at s Programme (31 + j)) (call-earns price s kw (31 + j))) k → missed ≡ sum-below (λ j. for-call (call-at s Programme (31 + j)) (λ c. cond (is-missed reduction (reduced s kw (31 + j) c)) 1 0)) k → basic ≡ basic-credit red rate count missed → red ≡ reduction → rate ≡ basic-rate count hours → count ≡ call-count s → hours ≡ called-hours s → earned + basic ≡ bid-credit reduction price s kw
+bid-sums reduction price s kw k earned missed basic red rate count hours ek ee em eb er et ec eh =
+    let counted-missed : missed ≡ missed-count reduction s kw = em ∙ ap (sum-below _) ek in
+    let rated : rate ≡ basic-rate (call-count s) (called-hours s) = et ∙ ap (λ n. basic-rate n hours) ec ∙ ap (basic-rate (call-count s)) eh in
+    ap (λ n. n + basic) (ee ∙ ap (sum-below _) ek)
+    ∙ ap (λ n. sum-of-calls s Programme (call-earns price s kw) + n)
+    (eb
+    ∙ ap (λ n. basic-credit n rate count missed) er
+    ∙ ap (λ n. basic-credit reduction n count missed) rated
+    ∙ ap (λ n. basic-credit reduction (basic-rate (call-count s) (called-hours s)) n missed) ec
+    ∙ ap (basic-credit reduction (basic-rate (call-count s) (called-hours s)) (call-count s)) counted-missed)
 
 -- a call's reduction
 module _ (s : SiteModel) (kw kw′ : Demand) (d : ℕ) (c : Call) where
@@ -117,7 +142,7 @@ module _ (reduction price : ℕ) (reduction-low : reduction ≤ 40000) (price-lo
       let earned =
       calls-bounded s Programme (call-earns price s kw) 3840000000
       (λ k c h e. worth-bounded (reduced s kw (31 + k) c) (slots-in (covers c)) price (reduced-bounded s kw (31 + k) c low) (slots-few (covers c)) price-low) in
-      let basic = basic-bounded reduction (call-count s) (called-hours s) (missed-count reduction s kw) reduction-low in
+      let basic = basic-bounded reduction (basic-rate (call-count s) (called-hours s)) (call-count s) (missed-count reduction s kw) reduction-low (rate-low (call-count s) (called-hours s)) in
       omega (arith, earned, basic)
 
   bid-extra-bounded : (s : SiteModel) (kw : Demand) → s .days ≤ 31 → bid reduction price .extra s kw ≤ 10 ^ 13

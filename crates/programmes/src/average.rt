@@ -79,7 +79,7 @@ pub(crate) fn slots_in(part: &Part) -> u64
 }
 
 // A quotient without its fraction; over nothing it counts as 0.
-fn quotient(amount: u64, over: u64) -> u64
+pub(crate) fn quotient(amount: u64, over: u64) -> u64
     ensures { λ r. ⌜ r ≡ amount / over ⌝ }
 {
     if over == 0 { 0 } else { amount / over }
