@@ -144,3 +144,7 @@ five-day-uncalled s set d kw kw′ same =
 -- an average of equal sums over equally many slots
 pub same-average : (r kw kw′ n n′ : ℕ) → r ≡ kw * 1200 / n → kw ≡ kw′ → n ≡ n′ → r ≡ kw′ * 1200 / n′
 same-average r kw kw′ n n′ e p q = e ∙ ap (λ x. x * 1200 / n) p ∙ ap (λ y. kw′ * 1200 / y) q
+
+-- and what equal grains over equally many slots are worth at one price
+pub same-worth : (r g g′ n n′ p p′ : ℕ) → r ≡ worth g n p → g ≡ g′ → n ≡ n′ → p ≡ p′ → r ≡ worth g′ n′ p′
+same-worth r g g′ n n′ p p′ e eg en ep = e ∙ ap (λ x. worth x n p) eg ∙ ap (λ x. worth g′ x p) en ∙ ap (worth g′ n′) ep

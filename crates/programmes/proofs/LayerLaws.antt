@@ -16,11 +16,11 @@ use Rattle.programmes.specs.Layers.{flexible, flexible-refusal, flexible-adds,
 use Rattle.programmes.specs.Meanings.{ProgrammeMeaning, Asked, ProgrammeLaws, BareLaws, Same-uncalled, Same-named, Nowhere-higher}
 use Rattle.programmes.specs.Parts.{shared, apart}
 use Rattle.programmes.specs.Sites.{SiteModel, Demand, call-at, in-call, sum-of-calls}
-use Rattle.programmes.proofs.Amounts.{worth-grows, worth-bounded, slots-few, average-like, average-grows, five-day-like, five-day-bounded, five-day-uncalled}
+use Rattle.programmes.proofs.Amounts.{worth-grows, worth-bounded, same-worth, slots-few, average-like, average-grows, five-day-like, five-day-bounded, five-day-uncalled}
 use Rattle.programmes.proofs.CallSums.{calls-like, calls-grow, calls-bounded, some-call-at}
 
 -- what the layer does not refuse, the programme beneath does not
-beneath : (r : Option Refusal) (too-few : Bool) → flexible-refusal r too-few ≡ None → r ≡ None
+pub beneath : (r : Option Refusal) (too-few : Bool) → flexible-refusal r too-few ≡ None → r ≡ None
 beneath None too-few e = refl
 beneath (Some r) too-few e = e
 
@@ -119,3 +119,12 @@ module _ (m : ProgrammeMeaning) (laws : ProgrammeLaws m) (bare : BareLaws m) whe
             λ s kw kw′ asked asked′ same.
             laws .named-extra s kw kw′ (lower-asked s kw asked) (lower-asked s kw′ asked′) (λ d slot l t. same d slot l (or-left _ _ t));
       }
+
+-- the credit of the slots that are not shared, as the code takes it
+pub apart-sums : (m : ProgrammeMeaning) (s : SiteModel) (kw : Demand) (d : ℕ) (c : Call) (own : Option Call) (r base avg below slots price : ℕ) → own ≡ m .own-call s d → base ≡ five-day s kw (apart c own) d → avg ≡ average-in (apart c own) (kw d) → below ≡ base - avg → slots ≡ slots-in (apart c own) → price ≡ 1000 → r ≡ worth below slots price → r ≡ apart-credit m s kw d c
+apart-sums m s kw d c own r base avg below slots price eo eb ea el es ep e =
+    same-worth r below (five-day s kw (apart c own) d - average-in (apart c own) (kw d)) slots (slots-in (apart c own)) price 1000 e
+    (el ∙ ap (λ x. x - avg) eb ∙ ap (λ x. five-day s kw (apart c own) d - x) ea)
+    es
+    ep
+    ∙ ap (λ o. worth (five-day s kw (apart c o) d - average-in (apart c o) (kw d)) (slots-in (apart c o)) 1000) eo

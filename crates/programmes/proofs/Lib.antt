@@ -1,4 +1,5 @@
 pub mod Amounts
+pub mod Asking
 pub mod BidLaws
 pub mod CallSums
 pub mod DaySlots
