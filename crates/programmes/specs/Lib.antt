@@ -1,0 +1,9 @@
+pub mod Averages
+pub mod Bids
+pub mod LatestDays
+pub mod Layers
+pub mod Meanings
+pub mod Parts
+pub mod SiteModels
+pub mod Sites
+pub mod Sums
