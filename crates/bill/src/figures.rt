@@ -9,5 +9,5 @@ pub fn figures_shown() -> usize
     ensures count { λ r. ⌜ r ≡ length figures ⌝ }
     ensures hold { λ _. ⌜ every figures ≡ true ⌝ }
 {
-    13
+    19
 }
