@@ -51,9 +51,9 @@ module _ (set : ℕ → Bool) where
   kw-like day day′ same =
       sum-like (λ slot. cond (set slot) (day slot) 0) (λ slot. cond (set slot) (day′ slot) 0) 96
       (λ k h. ⊎-elim
-          (λ (t : set k ≡ true). subst (λ b. cond b (day k) 0 ≡ cond b (day′ k) 0) (sym t) (same k h t))
-          (λ (f : set k ≡ false). subst (λ b. cond b (day k) 0 ≡ cond b (day′ k) 0) (sym f) refl)
-          (cases-bool (set k)))
+      (λ (t : set k ≡ true). subst (λ b. cond b (day k) 0 ≡ cond b (day′ k) 0) (sym t) (same k h t))
+      (λ (f : set k ≡ false). subst (λ b. cond b (day k) 0 ≡ cond b (day′ k) 0) (sym f) refl)
+      (cases-bool (set k)))
 
   -- readings that are nowhere lower
   pub kw-grows : (day day′ : ℕ → ℕ) → ((slot : ℕ) → slot < 96 → day slot ≤ day′ slot) → kw-in set day ≤ kw-in set day′
@@ -116,7 +116,7 @@ module _ (s : SiteModel) (set : ℕ → Bool) (d : ℕ) where
   five-day-like kw kw′ same =
       ap (λ n. n * 1200 / (5 * slots-in set))
       (sum-days-like (λ e. kw-in set (kw e)) (λ e. kw-in set (kw′ e)) (averaged s d)
-          (λ e t. kw-like set (kw e) (kw′ e) (λ slot h in-set. same e slot h t in-set)))
+      (λ e t. kw-like set (kw e) (kw′ e) (λ slot h in-set. same e slot h t in-set)))
 
   pub five-day-bounded : (kw : Demand) → ((e slot : ℕ) → kw e slot ≤ 40000) → five-day s kw set d ≤ 40000 * 1200
   five-day-bounded kw low =

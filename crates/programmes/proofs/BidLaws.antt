@@ -63,13 +63,13 @@ basic-falls reduction rate calls missed missed′ h =
     let x = 4 * reduction * rate in
     ⊎-elim
     (λ (z : eqb missed 0 ≡ true).
-        let both : missed ≡ missed′ = omega (arith, eqb-true missed 0 z) in
-        subst (λ n. basic-credit reduction rate calls missed ≤ basic-credit reduction rate calls n) both (omega arith))
+    let both : missed ≡ missed′ = omega (arith, eqb-true missed 0 z) in
+    subst (λ n. basic-credit reduction rate calls missed ≤ basic-credit reduction rate calls n) both (omega arith))
     (λ (z : eqb missed 0 ≡ false).
-        subst (λ b. cond b (x * 6 / 5) (x * (calls - missed) / calls) ≤ basic-credit reduction rate calls missed′) (sym z)
-        (cond-both (eqb missed′ 0) (x * 6 / 5) (x * (calls - missed′) / calls) (λ y. x * (calls - missed) / calls ≤ y)
-            (λ _. let p = share-most x calls missed in omega (arith, p))
-            (λ _. div-grows _ _ calls (mul-le-mul-left x (omega arith)))))
+    subst (λ b. cond b (x * 6 / 5) (x * (calls - missed) / calls) ≤ basic-credit reduction rate calls missed′) (sym z)
+    (cond-both (eqb missed′ 0) (x * 6 / 5) (x * (calls - missed′) / calls) (λ y. x * (calls - missed) / calls ≤ y)
+    (λ _. let p = share-most x calls missed in omega (arith, p))
+    (λ _. div-grows _ _ calls (mul-le-mul-left x (omega arith)))))
     (cases-bool (eqb missed 0))
 
 pub basic-bounded : (reduction rate calls missed : ℕ) → reduction ≤ 40000 → rate ≤ 6000 → basic-credit reduction rate calls missed ≤ 1152000000
@@ -125,13 +125,13 @@ module _ (s : SiteModel) (kw kw′ : Demand) (same : (d slot : ℕ) → slot < 9
   named-base =
       five-day-like s (covers c) (31 + k) kw kw′
       (λ d slot l t in-call.
-          same d slot l (some-call-at s Programme (λ e c. covers c slot && (eqb d e || among d (averaged s e))) k c h e (and-from _ _ in-call (or-right _ _ t))))
+      same d slot l (some-call-at s Programme (λ e c. covers c slot && (eqb d e || among d (averaged s e))) k c h e (and-from _ _ in-call (or-right _ _ t))))
 
   named-average : average-in (covers c) (kw (31 + k)) ≡ average-in (covers c) (kw′ (31 + k))
   named-average =
       average-like (covers c) (kw (31 + k)) (kw′ (31 + k))
       (λ slot l in-call.
-          same (31 + k) slot l (some-call-at s Programme (λ e c. covers c slot && (eqb (31 + k) e || among (31 + k) (averaged s e))) k c h e (and-from _ _ in-call (or-left _ _ (eq-eqb (31 + k) (31 + k) refl)))))
+      same (31 + k) slot l (some-call-at s Programme (λ e c. covers c slot && (eqb (31 + k) e || among (31 + k) (averaged s e))) k c h e (and-from _ _ in-call (or-left _ _ (eq-eqb (31 + k) (31 + k) refl)))))
 
   named-reduced : reduced s kw (31 + k) c ≡ reduced s kw′ (31 + k) c
   named-reduced = ap (λ b. counted (b - average-in (covers c) (kw (31 + k)))) named-base ∙ ap (λ a. counted (five-day s kw′ (covers c) (31 + k) - a)) named-average

@@ -143,20 +143,17 @@ fn averaged_kw(site: &Site<'_>, lead: &[u32], readings: &[u32], part: &Part, day
 }
 
 // The five-day average of a part for a day of the month, in grains.
-pub(crate) fn five_day(
-    site: &Site<'_>,
-    lead: &[u32],
-    readings: &[u32],
-    part: &Part,
-    day: u8,
-) -> u64
+pub(crate) fn five_day(site: &Site<'_>, lead: &[u32], readings: &[u32], part: &Part, day: u8) -> u64
     requires full { ⌜ Full (site-model (now site)) (now lead) (now readings) ⌝ }
     requires within { ⌜ day < 31 + site-model (now site) .days ⌝ }
     ensures value { λ r. ⌜ r ≡ five-day (site-model (now (site .entry))) (demand (now (lead .entry)) (now (readings .entry))) (holds (now (part .entry))) day ⌝ }
     ensures bound { λ r. ⌜ r ≤ 48000000 ⌝ }
 {
     let kw = averaged_kw(site, lead, readings, part, day);
-    quotient(u64::from(kw) * GRAINS_A_KW, DAYS_AVERAGED as u64 * slots_in(part))
+    quotient(
+        u64::from(kw) * GRAINS_A_KW,
+        DAYS_AVERAGED as u64 * slots_in(part),
+    )
 }
 
 // The average demand of a day in a part, in grains.

@@ -75,7 +75,10 @@ fn basic_credit(reduction: u32, rate: u32, calls: u32, missed: u32) -> u64
     if missed == 0 {
         whole * 6 / 5
     } else {
-        quotient(whole * u64::from(calls.saturating_sub(missed)), u64::from(calls))
+        quotient(
+            whole * u64::from(calls.saturating_sub(missed)),
+            u64::from(calls),
+        )
     }
 }
 
@@ -87,8 +90,13 @@ fn call_reduction(site: &Site<'_>, lead: &[u32], readings: &[u32], day: u8, call
     ensures bound { λ r. ⌜ r ≤ 48000000 ⌝ }
 {
     let part = Part::Whole(call);
-    let below = five_day(site, lead, readings, &part, day)
-        .saturating_sub(average_in(site, lead, readings, &part, day));
+    let below = five_day(site, lead, readings, &part, day).saturating_sub(average_in(
+        site,
+        lead,
+        readings,
+        &part,
+        day,
+    ));
     if below < LEAST_REDUCTION { 0 } else { below }
 }
 
@@ -216,7 +224,12 @@ pub impl Programme for Bid as BidProgramme {
             missed += settled.missed;
         }
         let totals = call_totals(site);
-        let basic = basic_credit(self.terms.reduction(), basic_rate(totals), totals.count, missed);
+        let basic = basic_credit(
+            self.terms.reduction(),
+            basic_rate(totals),
+            totals.count,
+            missed,
+        );
         (earned + basic, owed)
     }
 }

@@ -12,8 +12,8 @@ loop-slot-holds c = (sym (sum-none _), omega arith)
 pub loop-slot-again : need.loop-slot-again
 loop-slot-again c =
     elim (c .if-holds .came) [
-      then-holds w ↦
-        (w .count-is ∙ counts (holds (c .args .part .now)) (λ _. 1) _ _ (c .loop-slot .inv .0) (sym (c .holds .ensures) ∙ w .if-holds .taken), omega (arith, w .count-is, c .loop-slot .inv .1))
-    | else-holds w ↦
-        (w .count-is ∙ passes (holds (c .args .part .now)) (λ _. 1) _ _ (c .loop-slot .inv .0) (sym (c .holds .ensures) ∙ w .if-holds .left), omega (arith, w .count-is, c .loop-slot .inv .1))
+      | then-holds w ↦
+          (w .count-is ∙ counts (holds (c .args .part .now)) (λ _. 1) _ _ (c .loop-slot .inv .0) (sym (c .holds .ensures) ∙ w .if-holds .taken), omega (arith, w .count-is, c .loop-slot .inv .1))
+      | else-holds w ↦
+          (w .count-is ∙ passes (holds (c .args .part .now)) (λ _. 1) _ _ (c .loop-slot .inv .0) (sym (c .holds .ensures) ∙ w .if-holds .left), omega (arith, w .count-is, c .loop-slot .inv .1))
     ]
