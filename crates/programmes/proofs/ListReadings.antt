@@ -1,7 +1,7 @@
 -- Two months of readings behind one lead, as demands. Assumes nothing.
-use mathlib.Core.Path.{_≡_, refl, sym, ap, subst, _∙_}
+use mathlib.Core.Path.{_≡_, refl, sym, subst}
 use mathlib.Core.Bool.{true, false}
-use mathlib.Core.List.{List, _++_}
+use mathlib.Core.List.{List}
 use mathlib.Core.Logic.{⊎-elim}
 use Prim.Native.Nat.{ℕ, _+_, _-_, _*_, _/_, _%_, _≤_, _<_}
 use native.Mathlib.Omega.{arith}
@@ -17,20 +17,20 @@ module _ (lead r r′ : List ℕ) (full : length lead ≡ 2976) (alike : length 
   month-relates R P same relates d slot h p =
       ⊎-elim
       (λ (early : 96 * d + slot < 2976).
-          subst (λ n. R n (demand lead r′ d slot)) (sym (getD-append-left lead r 0 (96 * d + slot) (omega arith)))
-          (subst (λ n. R (getD lead (96 * d + slot) 0) n) (sym (getD-append-left lead r′ 0 (96 * d + slot) (omega arith))) (same _)))
+      subst (λ n. R n (demand lead r′ d slot)) (sym (getD-append-left lead r 0 (96 * d + slot) (omega arith)))
+      (subst (λ n. R (getD lead (96 * d + slot) 0) n) (sym (getD-append-left lead r′ 0 (96 * d + slot) (omega arith))) (same _)))
       (λ (late : 2976 ≤ 96 * d + slot).
-          let k = 96 * d + slot - 2976 in
-          subst (λ n. R n (demand lead r′ d slot)) (sym (getD-append-right lead r 2976 (96 * d + slot) 0 full late))
-          (subst (λ n. R (getD r k 0) n) (sym (getD-append-right lead r′ 2976 (96 * d + slot) 0 full late))
-              (⊎-elim
-                  (λ (within : k < length r).
-                      let on-day : d ≡ 31 + k / 96 = omega arith in
-                      let in-slot : slot ≡ k % 96 = omega arith in
-                      relates k within (subst (P (31 + k / 96)) in-slot (subst (λ e. P e slot) on-day p)))
-                  (λ (past : length r ≤ k).
-                      subst (λ n. R n (getD r′ k 0)) (sym (getD-past r k 0 past)) (subst (R 0) (sym (getD-past r′ k 0 (omega arith))) (same 0)))
-                  (cases-lt k (length r)))))
+      let k = 96 * d + slot - 2976 in
+      subst (λ n. R n (demand lead r′ d slot)) (sym (getD-append-right lead r 2976 (96 * d + slot) 0 full late))
+      (subst (λ n. R (getD r k 0) n) (sym (getD-append-right lead r′ 2976 (96 * d + slot) 0 full late))
+      (⊎-elim
+      (λ (within : k < length r).
+      let on-day : d ≡ 31 + k / 96 = omega arith in
+      let in-slot : slot ≡ k % 96 = omega arith in
+      relates k within (subst (P (31 + k / 96)) in-slot (subst (λ e. P e slot) on-day p)))
+      (λ (past : length r ≤ k).
+      subst (λ n. R n (getD r′ k 0)) (sym (getD-past r k 0 past)) (subst (R 0) (sym (getD-past r′ k 0 (omega arith))) (same 0)))
+      (cases-lt k (length r)))))
       (cases-lt (96 * d + slot) 2976)
 
   pub months-uncalled : (s : SiteModel) → ((k : ℕ) → k < length r → called s (31 + k / 96) (k % 96) ≡ false → getD r k 0 ≡ getD r′ k 0) → Same-uncalled s (demand lead r) (demand lead r′)

@@ -8,7 +8,7 @@ use calendar::refusal::RefusalPartialEq;
 use readings::any_above;
 use std::test::*;
 
-// Monday, 15 July 2024, by its number and counted from the lead's first day; slots from 40 on are called.
+// Monday, 15 July 2024, by its number and counted from the month's first day; the slots of 10 to 12 hours are called.
 const MONDAY: u32 = 8_962;
 
 const CALLED_DAY: usize = 14;
@@ -59,7 +59,7 @@ fn a_bid_earns_its_reduction_and_owes_what_it_misses() -> Result<(), Fail> {
 }
 
 #[test]
-fn a_flexible_call_adds_what_passes_the_contract_reduction() -> Result<(), Fail> {
+fn a_flexible_call_adds_to_a_bid_and_to_no_programme() -> Result<(), Fail> {
     let calls = [Call::new(MONDAY, 1, 10, 2)?, Call::new(MONDAY, 2, 10, 2)?];
     let site = Site {
         regular: 500,
@@ -71,14 +71,31 @@ fn a_flexible_call_adds_what_passes_the_contract_reduction() -> Result<(), Fail>
     let lead = [300; 2976];
     let (credit, extra) = settled(&layer, &site, &lead, &july_readings(180))?;
     check_eq(credit, 2_000_000)?;
+    check_eq(extra, 0)?;
+    let (credit, extra) = settled(
+        &Flexible::new(NoProgramme),
+        &site,
+        &lead,
+        &july_readings(180),
+    )?;
+    check_eq(credit, 960_000)?;
     check_eq(extra, 0)
 }
 
 #[test]
 fn terms_are_granted_from_20_kw_and_up_to_1000_cents() -> Result<(), Fail> {
-    check_eq(BidTerms::new(19, 1_001).err(), Some(Refusal::ReductionOutOfRange))?;
-    check_eq(BidTerms::new(40_001, 0).err(), Some(Refusal::ReductionOutOfRange))?;
-    check_eq(BidTerms::new(20, 1_001).err(), Some(Refusal::BidPriceAboveLimit))?;
+    check_eq(
+        BidTerms::new(19, 1_001).err(),
+        Some(Refusal::ReductionOutOfRange),
+    )?;
+    check_eq(
+        BidTerms::new(40_001, 0).err(),
+        Some(Refusal::ReductionOutOfRange),
+    )?;
+    check_eq(
+        BidTerms::new(20, 1_001).err(),
+        Some(Refusal::BidPriceAboveLimit),
+    )?;
     check_eq(BidTerms::new(40_000, 1_000)?.price(), 1_000)
 }
 

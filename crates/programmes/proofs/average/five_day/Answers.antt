@@ -1,5 +1,5 @@
 use mathlib.Core.Path.{_≡_, sym, ap, subst, _∙_}
-use Prim.Native.Nat.{ℕ, _*_, _≤_}
+use Prim.Native.Nat.{_*_, _≤_}
 use Rattle.std.specs.shelf.Lists.{sumBy}
 use Rattle.programmes.specs.Averages.{kw-in, slots-in, averaged, five-day}
 use Rattle.programmes.specs.Parts.{holds}
