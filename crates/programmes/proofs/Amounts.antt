@@ -1,10 +1,10 @@
 -- Bounds and order of averages and of what they are worth. Assumes nothing.
 use mathlib.Core.Path.{_≡_, refl, sym, ap, subst, _∙_}
-use mathlib.Core.Bool.{Bool, true, false, cond, _||_, _&&_, not}
+use mathlib.Core.Bool.{Bool, true, false, cond, _||_, not}
 use mathlib.Core.List.{List, [], _∷_}
 use mathlib.Core.Logic.{⊎-elim}
-use Prim.Native.Nat.{ℕ, zero, suc, _+_, _-_, _*_, _/_, _≤_, _<_}
-use native.Mathlib.Nat.{mul-le-mul, mul-le-mul-left, mul-le-mul-right, div-le-of-le-mul, div-mul-le-self, div-zero, le-trans, mul-comm, mul-assoc}
+use Prim.Native.Nat.{ℕ, zero, suc, _-_, _*_, _/_, _≤_, _<_}
+use native.Mathlib.Nat.{mul-le-mul, mul-le-mul-right, div-le-of-le-mul, div-mul-le-self, div-zero, le-trans}
 use native.Mathlib.Omega.{arith}
 use lib.Dec.{eqb}
 use lib.ListN.{length}
@@ -21,7 +21,6 @@ use Rattle.calendar.specs.OffPeak.{kind-under}
 use Rattle.programmes.specs.Averages.{kw-in, slots-in, average-in, latest, averaged, among, five-day, worth}
 use Rattle.programmes.specs.Meanings.{Same-uncalled}
 use Rattle.programmes.specs.Sites.{SiteModel, Demand, call-at, called, eligible, in-call, is-working, day-number}
-use Rattle.programmes.specs.Sums.{sum-below}
 use Rattle.programmes.proofs.SumLaws.{sum-like, sum-grows, sum-bounded, sum-scaled}
 
 -- a quotient grows with what is divided

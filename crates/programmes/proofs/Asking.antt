@@ -1,8 +1,8 @@
 -- What a call of a programme's methods with full readings asks of the programme. Assumes nothing.
-use mathlib.Core.Path.{_≡_, ap, subst, sym, _∙_}
+use mathlib.Core.Path.{_≡_, subst}
 use mathlib.Core.Bool.{cond, _||_}
 use mathlib.Core.List.{List}
-use Prim.Native.Nat.{ℕ, _+_, _-_, _*_, _≤_, _<_}
+use Prim.Native.Nat.{ℕ, _+_, _-_, _≤_, _<_}
 use native.Mathlib.Omega.{arith}
 use lib.Dec.{eqb}
 use Rattle.std.specs.declared.option.Option.the-variants.{None}
@@ -10,7 +10,7 @@ use Rattle.std.proofs.shelf.Tests.{cond-both}
 use Rattle.calendar.specs.Gregorian.{leap, length-of}
 use Rattle.programmes.specs.declared.site.Site.{Site}
 use Rattle.programmes.specs.Meanings.{ProgrammeMeaning, ProgrammeLaws, Asked}
-use Rattle.programmes.specs.Sites.{SiteModel, Full, demand}
+use Rattle.programmes.specs.Sites.{Full, demand}
 use Rattle.programmes.specs.SiteModels.{site-model}
 use Rattle.programmes.proofs.DaySlots.{full-low}
 

@@ -1,21 +1,20 @@
 -- No programme and the bid keep the laws of every programme. Assumes nothing.
 use mathlib.Core.Path.{_≡_, refl, sym, ap, subst, _∙_}
-use mathlib.Core.Bool.{Bool, true, false, cond, _&&_, _||_}
+use mathlib.Core.Bool.{true, false, cond, _&&_, _||_}
 use mathlib.Core.Logic.{⊎-elim}
 use Prim.Native.Nat.{ℕ, _+_, _-_, _*_, _/_, _^_, _≤_, _<_, max}
-use native.Mathlib.Nat.{mul-le-mul, mul-le-mul-left, mul-le-mul-right, mul-comm, div-le-of-le-mul, le-trans}
+use native.Mathlib.Nat.{mul-le-mul, mul-le-mul-left, mul-comm, div-le-of-le-mul}
 use native.Mathlib.Omega.{arith}
-use lib.Dec.{eqb, ltb}
-use Rattle.std.specs.declared.option.Option.{Option}
-use Rattle.std.specs.declared.option.Option.the-variants.{Some, None}
-use Rattle.std.proofs.shelf.Tests.{and-from, or-left, or-right, eq-eqb, cond-both, cond-false, ne-eqb, cases-bool, eqb-true, eqb-false, ltb-true, ltb-false}
+use lib.Dec.{eqb}
+use Rattle.std.specs.declared.option.Option.the-variants.{Some}
+use Rattle.std.proofs.shelf.Tests.{and-from, or-left, or-right, eq-eqb, cond-both, cond-false, ne-eqb, cases-bool, eqb-true}
 use Rattle.std.proofs.shelf.Ways.{tells}
 use Rattle.calendar.specs.declared.call.Call.{Call}
 use Rattle.calendar.specs.declared.call.CallKind.the-variants.{Programme}
 use Rattle.calendar.specs.Calls.{covers}
 use Rattle.programmes.specs.Averages.{slots-in, average-in, averaged, among, five-day, worth}
 use Rattle.programmes.specs.Bids.{no-programme, bid, counted, reduced, is-missed, call-earns, call-owes, call-baseline, call-count, called-hours, missed-count, basic-rate, basic-credit, bid-credit, bid-named}
-use Rattle.programmes.specs.Meanings.{Asked, ProgrammeLaws, BareLaws, Same-uncalled, Same-named, Nowhere-higher}
+use Rattle.programmes.specs.Meanings.{ProgrammeLaws, BareLaws, Same-uncalled, Nowhere-higher}
 use Rattle.programmes.specs.Sites.{SiteModel, Demand, call-at, for-call, sum-of-calls}
 use Rattle.programmes.specs.Sums.{sum-below}
 use Rattle.programmes.proofs.Amounts.{div-grows, worth-grows, worth-bounded, slots-few, average-like, average-grows, five-day-like, five-day-bounded, five-day-uncalled}

@@ -1,5 +1,5 @@
 -- Where a day's readings stand, and sums over its slots as a loop takes them. Assumes nothing.
-use mathlib.Core.Path.{_≡_, refl, sym, ap, subst, _∙_}
+use mathlib.Core.Path.{_≡_, refl, sym, ap, _∙_}
 use mathlib.Core.Bool.{Bool, true, false, cond}
 use mathlib.Core.List.{List, [], _∷_, _++_}
 use Prim.Native.Nat.{ℕ, zero, suc, _+_, _-_, _*_, _≤_, _<_}
@@ -12,7 +12,7 @@ use Rattle.std.proofs.shelf.Ways.{tells}
 use Rattle.readings.specs.Sheets.{any-above}
 use Rattle.programmes.specs.Sites.{SiteModel, Full, demand}
 use Rattle.programmes.specs.Sums.{sum-below}
-use Rattle.programmes.proofs.SumLaws.{sum-none, sum-more}
+use Rattle.programmes.proofs.SumLaws.{sum-more}
 
 module _ (lead readings : List ℕ) (d n slot : ℕ) (all : n ≡ 96) (one : slot < 96) where
   pub in-lead : 96 * d + 96 ≤ length lead → getD (take n (drop (96 * d) lead)) slot 0 ≡ demand lead readings d slot

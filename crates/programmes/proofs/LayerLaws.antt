@@ -1,7 +1,7 @@
 -- The flexible layer keeps the laws of every programme, by the laws of the programme beneath alone. Assumes nothing.
-use mathlib.Core.Path.{_≡_, refl, sym, ap, subst, _∙_}
-use mathlib.Core.Bool.{Bool, true, false, cond, _&&_, _||_}
-use Prim.Native.Nat.{ℕ, _+_, _-_, _*_, _^_, _≤_, _<_}
+use mathlib.Core.Path.{_≡_, refl, ap, _∙_}
+use mathlib.Core.Bool.{Bool, true, _&&_, _||_}
+use Prim.Native.Nat.{ℕ, _+_, _-_, _*_, _≤_, _<_}
 use native.Mathlib.Omega.{arith}
 use lib.Dec.{eqb}
 use Rattle.std.specs.declared.option.Option.{Option}
@@ -15,7 +15,7 @@ use Rattle.programmes.specs.Averages.{slots-in, average-in, averaged, among, f
 use Rattle.programmes.specs.Layers.{flexible, flexible-refusal, flexible-adds, shared-credit, apart-credit}
 use Rattle.programmes.specs.Meanings.{ProgrammeMeaning, Asked, ProgrammeLaws, BareLaws, Same-uncalled, Same-named, Nowhere-higher}
 use Rattle.programmes.specs.Parts.{shared, apart}
-use Rattle.programmes.specs.Sites.{SiteModel, Demand, call-at, in-call, sum-of-calls}
+use Rattle.programmes.specs.Sites.{SiteModel, Demand, call-at, sum-of-calls}
 use Rattle.programmes.proofs.Amounts.{worth-grows, worth-bounded, same-worth, slots-few, average-like, average-grows, five-day-like, five-day-bounded, five-day-uncalled}
 use Rattle.programmes.proofs.CallSums.{calls-like, calls-grow, calls-bounded, some-call-at}
 

@@ -5,4 +5,5 @@ pub mod CallSums
 pub mod DaySlots
 pub mod Latest
 pub mod LayerLaws
+pub mod ListReadings
 pub mod SumLaws

@@ -1,8 +1,7 @@
 -- No programme, and the bid for peak reduction. Assumes nothing.
 use mathlib.Core.Bool.{Bool, true, false, cond, not, _&&_, _||_}
 use Prim.Native.Nat.{ℕ, _+_, _-_, _*_, _/_, max}
-use lib.Dec.{eqb, leb, ltb}
-use lib.ListN.{length}
+use lib.Dec.{eqb, ltb}
 use Rattle.std.specs.declared.option.Option.{Option}
 use Rattle.std.specs.declared.option.Option.the-variants.{Some, None}
 use Rattle.calendar.specs.declared.call.Call.{Call}
@@ -11,7 +10,7 @@ use Rattle.calendar.specs.declared.call.CallKind.the-variants.{Programme, Flexi
 use Rattle.calendar.specs.declared.refusal.Refusal.{Refusal}
 use Rattle.calendar.specs.declared.refusal.Refusal.the-variants.{ReductionOutOfRange, BidPriceAboveLimit, BidBeyondCapacity, CallLengthNotTaken, CalledHoursAboveLimit, TooFewDaysToAverage}
 use Rattle.calendar.specs.Calls.{covers}
-use Rattle.programmes.specs.Averages.{grains-a-kw, slots-in, average-in, averaged, among, five-day, worth}
+use Rattle.programmes.specs.Averages.{grains-a-kw, slots-in, average-in, averaged, some-too-few, among, five-day, worth}
 use Rattle.programmes.specs.Meanings.{ProgrammeMeaning}
 use Rattle.programmes.specs.Sites.{SiteModel, Demand, call-at, for-call, sum-of-calls, some-call}
 
@@ -39,10 +38,6 @@ terms-refusal reduction price =
 abbrev pub bid-takes : CallKind → Bool
 bid-takes Programme = true
 bid-takes Flexible = false
-
--- some call of a kind in the month has fewer than five days to average
-abbrev pub some-too-few : SiteModel → CallKind → Bool
-some-too-few s kind = some-call s kind (λ d c. ltb (length (averaged s d)) 5)
 
 -- some call of the programme lasts neither two nor four hours
 abbrev pub some-length-not-taken : SiteModel → Bool
@@ -90,11 +85,12 @@ call-owes reduction price s kw d c = worth (reduction * grains-a-kw - reduced s 
 abbrev pub missed-count : ℕ → SiteModel → Demand → ℕ
 missed-count reduction s kw = sum-of-calls s Programme (λ d c. cond (is-missed reduction (reduced s kw d c)) 1 0)
 
--- the rate of the basic credit: none without calls, 30 NT$ below 16 hours in the month and 60 NT$ from there, in cents
+-- the rate of the basic credit, in cents for each kW of the contract reduction: none without calls, 30 NT$ below 16 hours in the month
+-- and 60 NT$ from there
 abbrev pub basic-rate : ℕ → ℕ → ℕ
 basic-rate calls hours = cond (eqb calls 0) 0 (cond (ltb hours 16) 3000 6000)
 
--- the basic credit: a fifth more where no call was missed, else the share of the calls that were not
+-- the basic credit in units, four to a cent: a fifth more where no call was missed, else the share of the calls that were not
 abbrev pub basic-credit : ℕ → ℕ → ℕ → ℕ → ℕ
 basic-credit reduction rate calls missed =
     cond (eqb missed 0) (4 * reduction * rate * 6 / 5) (4 * reduction * rate * (calls - missed) / calls)

@@ -10,8 +10,7 @@ use Rattle.calendar.specs.declared.call.CallKind.the-variants.{Programme, Flexi
 use Rattle.calendar.specs.declared.refusal.Refusal.{Refusal}
 use Rattle.calendar.specs.declared.refusal.Refusal.the-variants.{TooFewDaysToAverage}
 use Rattle.calendar.specs.Calls.{covers}
-use Rattle.programmes.specs.Averages.{grains-a-kw, slots-in, average-in, averaged, among, five-day, worth}
-use Rattle.programmes.specs.Bids.{some-too-few}
+use Rattle.programmes.specs.Averages.{grains-a-kw, slots-in, average-in, averaged, some-too-few, among, five-day, worth}
 use Rattle.programmes.specs.Meanings.{ProgrammeMeaning}
 use Rattle.programmes.specs.Parts.{shared, apart}
 use Rattle.programmes.specs.Sites.{SiteModel, Demand, sum-of-calls, some-call}

@@ -20,7 +20,7 @@ pub const GRAINS_A_KW: u64 = 1_200;
 pub(crate) const DAYS_AVERAGED: usize = 5;
 
 // The slots of a day.
-const SLOTS: u8 = 96;
+const SLOTS: u8 = SLOTS_A_DAY as u8;
 
 // The readings of a day, where they stand in the lead or the month.
 fn day_readings<'r>(lead: &'r [u32], readings: &'r [u32], day: u8) -> &'r [u32]

@@ -2,7 +2,7 @@
 ghost use mathlib.Core.Bool.{cond};
 ghost use mathlib.Core.Path.{_≡_};
 ghost use Prim.Native.Nat.{_+_, _*_, _≤_, _<_};
-ghost use Rattle.programmes.specs.Bids.{bid, basic-credit, basic-rate, call-baseline, call-earns, call-owes, is-missed, reduced};
+ghost use Rattle.programmes.specs.Bids.{bid, basic-credit, basic-rate, call-earns, call-owes, is-missed, reduced};
 ghost use Rattle.programmes.specs.SiteModels.{site-model};
 ghost use Rattle.programmes.specs.Sites.{Full, demand, for-call};
 use crate::average::GRAINS_A_KW;

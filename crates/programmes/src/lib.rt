@@ -24,3 +24,6 @@ pub use programme::Programme;
 pub use site::LEAD_DAYS;
 pub use site::Site;
 pub use terms::BidTerms;
+
+#[cfg(test)]
+mod tests;

@@ -4,8 +4,7 @@ use Prim.Native.Nat.{ℕ, _≤_}
 use native.Mathlib.Omega.{arith}
 use lib.ListN.{length, take, length-set}
 use Rattle.std.proofs.shelf.Lists.{length-take-le}
-use Rattle.programmes.specs.Averages.{averaged}
-use Rattle.programmes.specs.Sites.{SiteModel, eligible}
+use Rattle.programmes.specs.Sites.{eligible}
 use Rattle.programmes.specs.SiteModels.{site-model}
 use Rattle.programmes.proofs.Latest.{finds, skips, all-found, none-left}
 use Rattle.programmes.proofs.average.days_to_average.Needs as need

@@ -1,6 +1,7 @@
 use mathlib.Core.Path.{_≡_, sym, ap, subst, _∙_}
-use Prim.Native.Nat.{ℕ, _*_, _≤_}
-use Rattle.programmes.specs.Averages.{five-day}
+use Prim.Native.Nat.{_*_, _≤_}
+use Rattle.std.specs.shelf.Lists.{sumBy}
+use Rattle.programmes.specs.Averages.{kw-in, slots-in, averaged, five-day}
 use Rattle.programmes.specs.Parts.{holds}
 use Rattle.programmes.specs.Sites.{demand}
 use Rattle.programmes.specs.SiteModels.{site-model}
@@ -12,9 +13,12 @@ pub returns : need.returns
 returns c =
     let s = site-model (c .args .site .now) in
     let kw = demand (c .args .lead .now) (c .args .readings .now) in
-    let value : c .quotient .result ≡ five-day s kw (holds (c .args .part .now)) (c .args .day) =
-    same-average _ _ _ _ _ (c .quotient .ensures) (c .from .ensures ∙ c .averaged-kw-kw .ensures .value) (ap (λ n. 5 * n) (c .slots-in .ensures .value)) in
+    let part = holds (c .args .part .now) in
+    let sum : c .from .result ≡ sumBy (λ e. kw-in part (kw e)) (averaged s (c .args .day)) = c .from .ensures ∙ c .averaged-kw-kw .ensures .value in
+    let slots : 5 * c .slots-in .result ≡ 5 * slots-in part = ap (λ n. 5 * n) (c .slots-in .ensures .value) in
+    let value : c .quotient .result ≡ five-day s kw part (c .args .day) =
+    same-average (c .quotient .result) (c .from .result) (sumBy (λ e. kw-in part (kw e)) (averaged s (c .args .day))) (5 * c .slots-in .result) (5 * slots-in part) (c .quotient .ensures) sum slots in
     record {
       value = value;
-      bound = subst (λ n. n ≤ 48000000) (sym value) (five-day-bounded s (holds (c .args .part .now)) (c .args .day) kw (full-low s (c .args .lead .now) (c .args .readings .now) (c .pre .full)));
+      bound = subst (λ n. n ≤ 48000000) (sym value) (five-day-bounded s part (c .args .day) kw (full-low s (c .args .lead .now) (c .args .readings .now) (c .pre .full)));
     }

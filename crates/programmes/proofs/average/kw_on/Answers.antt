@@ -1,8 +1,6 @@
-use mathlib.Core.Path.{_≡_, sym, ap, subst, _∙_}
-use Prim.Native.Nat.{_≤_}
+use mathlib.Core.Path.{_∙_}
 use native.Mathlib.Omega.{arith}
 use lib.ListN.{getD}
-use borrow.Author.Needs.{needs}
 use Rattle.programmes.specs.Parts.{holds}
 use Rattle.programmes.specs.Sites.{demand}
 use Rattle.programmes.specs.SiteModels.{site-model}
