@@ -49,7 +49,7 @@ struct Settled {
     missed: u32,
 }
 
-// The rate of the basic credit, in cents.
+// The rate of the basic credit, in cents for each kW of the contract reduction.
 fn basic_rate(totals: CallTotals) -> u32
     ensures value { λ r. ⌜ r ≡ basic-rate (totals .count) (totals .hours) ⌝ }
     ensures low { λ r. ⌜ r ≤ 6000 ⌝ }
@@ -90,13 +90,8 @@ fn call_reduction(site: &Site<'_>, lead: &[u32], readings: &[u32], day: u8, call
     ensures bound { λ r. ⌜ r ≤ 48000000 ⌝ }
 {
     let part = Part::Whole(call);
-    let below = five_day(site, lead, readings, &part, day).saturating_sub(average_in(
-        site,
-        lead,
-        readings,
-        &part,
-        day,
-    ));
+    let average = average_in(site, lead, readings, &part, day);
+    let below = five_day(site, lead, readings, &part, day).saturating_sub(average);
     if below < LEAST_REDUCTION { 0 } else { below }
 }
 

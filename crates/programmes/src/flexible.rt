@@ -54,9 +54,10 @@ impl<P: BareProgramme> Flexible<P> {
     {
         let part = Part::Shared(call, self.lower.own_call(site, day));
         let contract = u64::from(self.lower.reduction()) * GRAINS_A_KW;
+        let average = average_in(site, lead, readings, &part, day);
         let reduction = self.lower
             .baseline(site, lead, readings, day)
-            .saturating_sub(average_in(site, lead, readings, &part, day));
+            .saturating_sub(average);
         let price = PRICE.saturating_sub(self.lower.price_past());
         worth(
             reduction.saturating_sub(contract),
@@ -80,13 +81,8 @@ impl<P: BareProgramme> Flexible<P> {
         ensures bound { λ r. ⌜ r ≤ 3840000000 ⌝ }
     {
         let part = Part::Apart(call, self.lower.own_call(site, day));
-        let reduction = five_day(site, lead, readings, &part, day).saturating_sub(average_in(
-            site,
-            lead,
-            readings,
-            &part,
-            day,
-        ));
+        let average = average_in(site, lead, readings, &part, day);
+        let reduction = five_day(site, lead, readings, &part, day).saturating_sub(average);
         worth(reduction, slots_in(&part), u64::from(PRICE))
     }
 
