@@ -1,3 +1,5 @@
+#![tactic(auto)]
+
 // The bill of a month: the quote, the draft that it gives, the issued bill and its print.
 pub mod contract;
 pub mod draft;

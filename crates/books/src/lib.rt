@@ -1,3 +1,5 @@
+#![tactic(auto)]
+
 // The date book, and its two kinds of entry: off-peak days and calls for demand response.
 pub mod book;
 pub mod call;

@@ -1,3 +1,5 @@
+#![tactic(auto)]
+
 // Days, months, seasons and kinds of day, and the refusals that every layer answers with.
 pub mod date;
 pub mod day;

@@ -1,3 +1,5 @@
+#![tactic(auto)]
+
 // Prints every day of the calendar, a line each: its date, its weekday, and the season of its month (none in 2000). Its stored
 // output is another implementation's.
 use calendar::{Date, Month, Season, Weekday};

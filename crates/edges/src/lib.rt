@@ -1,3 +1,5 @@
+#![tactic(auto)]
+
 // Examples at the edges of each layer, as tests. No program builds on this crate.
 #[cfg(test)]
 mod bill_tests;

@@ -1,3 +1,5 @@
+#![tactic(auto)]
+
 // A job text: its lines, what they say, and the job carried out.
 mod body;
 mod header;

@@ -1,3 +1,5 @@
+#![tactic(auto)]
+
 // The program: reads a job from standard input, and writes its bill, or why it was refused, to standard output.
 use anyhow::anyhow;
 use job::{LONGEST_TEXT, Outcome, run_job};

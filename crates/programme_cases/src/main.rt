@@ -1,3 +1,5 @@
+#![tactic(auto)]
+
 // Settles programmes on cases from standard input, a line each, and writes what each comes to: the credit and the extra in units, or the
 // number of a refusal. Its stored output is another implementation's.
 //

@@ -1,3 +1,5 @@
+#![tactic(auto)]
+
 // Demand response: the programmes that a contract can have, what they credit and what they charge.
 pub mod average;
 pub mod bid;

@@ -1,3 +1,5 @@
+#![tactic(auto)]
+
 // Meter codes, and the sheet of a month's readings over lent storage.
 pub mod code;
 pub mod sheet;

@@ -1,3 +1,5 @@
+#![tactic(auto)]
+
 // Tariffs: which rank a slot has, what energy costs, and the household price; for contracts also what capacities allow and cost.
 pub mod capacities;
 pub mod contract;

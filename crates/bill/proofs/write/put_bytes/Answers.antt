@@ -4,6 +4,6 @@ use Rattle.bill.proofs.write.put_bytes.Goals as goal
 
 pub returns : goal.returns
 returns c =
-    wrote_part c.args.buffer.now c.args.at (c.args.at + length c.args.bytes.now) c.copy-from-slice.new.self c.args.bytes.now
+    wrote_part c.args.buffer.now c.args.at (c.args.at + length c.args.bytes.now) c.copy_from_slice.new.self c.args.bytes.now
     refl
-    c.copy-from-slice.ensures.after
+    c.copy_from_slice.ensures.after

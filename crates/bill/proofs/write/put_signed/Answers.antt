@@ -6,8 +6,8 @@ use Rattle.bill.proofs.write.put_signed.Goals as goal
 pub returns : goal.returns
 returns c =
     let z = c.args.number in
-    let n = c.unsigned-abs-2.result in
+    let n = c.unsigned_abs-2.result in
     let size : n ≡ nat_abs z = search rules in
     let below : z <ℤ pos 0 = search rules in
     let same : (45 ∷ decimal n) ≡ signed_decimal z = signed_below z n below size in
-    wrote_as same (then_wrote (room_as (sym same) c.requires) c.put-byte-digits.ensures c.put-decimal-2.ensures)
+    wrote_as same (then_wrote (room_as (sym same) c.requires) c.put_byte-digits.ensures c.put_decimal-2.ensures)

@@ -4,24 +4,24 @@ use Rattle.bill.proofs.Writing.{room_as, wrote_as}
 use Rattle.bill.proofs.Lines.{room_key, room_value, room_feed, wrote_line}
 use Rattle.bill.proofs.write.signed_line.Goals as goal
 
-pub put-key-begin-requires : goal.put-key-begin-requires
-put-key-begin-requires c = room_key c.args.key.now (signed_decimal c.args.number) c.requires
+pub put_key-begin-requires : goal.put_key-begin-requires
+put_key-begin-requires c = room_key c.args.key.now (signed_decimal c.args.number) c.requires
 
-pub put-signed-end-requires : goal.put-signed-end-requires
-put-signed-end-requires c =
+pub put_signed-end-requires : goal.put_signed-end-requires
+put_signed-end-requires c =
     let back : to_z w64 (of_z w64 c.args.number) ≡ c.args.number = to_z-of_z c.ranges.number in
-    room_as (ap signed_decimal (sym back)) (room_value c.args.key.now (signed_decimal c.args.number) c.requires c.put-key-begin.auto.buffer c.put-key-begin.ensures)
+    room_as (ap signed_decimal (sym back)) (room_value c.args.key.now (signed_decimal c.args.number) c.requires c.put_key-begin.auto.buffer c.put_key-begin.ensures)
 
-pub put-byte-requires : goal.put-byte-requires
-put-byte-requires c =
+pub put_byte-requires : goal.put_byte-requires
+put_byte-requires c =
     let back : to_z w64 (of_z w64 c.args.number) ≡ c.args.number = to_z-of_z c.ranges.number in
-    room_feed c.args.key.now (signed_decimal c.args.number) c.requires c.put-key-begin.auto.buffer c.put-key-begin.ensures
-    c.put-signed-end.auto.buffer
-    (wrote_as (ap signed_decimal back) c.put-signed-end.ensures)
+    room_feed c.args.key.now (signed_decimal c.args.number) c.requires c.put_key-begin.auto.buffer c.put_key-begin.ensures
+    c.put_signed-end.auto.buffer
+    (wrote_as (ap signed_decimal back) c.put_signed-end.ensures)
 
 pub returns : goal.returns
 returns c =
     let back : to_z w64 (of_z w64 c.args.number) ≡ c.args.number = to_z-of_z c.ranges.number in
-    wrote_line c.args.key.now (signed_decimal c.args.number) c.requires c.put-key-begin.auto.buffer c.put-key-begin.ensures
-    (wrote_as (ap signed_decimal back) c.put-signed-end.ensures)
-    c.put-byte.ensures
+    wrote_line c.args.key.now (signed_decimal c.args.number) c.requires c.put_key-begin.auto.buffer c.put_key-begin.ensures
+    (wrote_as (ap signed_decimal back) c.put_signed-end.ensures)
+    c.put_byte.ensures

@@ -1,21 +1,21 @@
 use Rattle.bill.proofs.Lines.{room_key, room_value, room_feed, wrote_line}
 use Rattle.bill.proofs.write.text_line.Goals as goal
 
-pub put-key-begin-requires : goal.put-key-begin-requires
-put-key-begin-requires c = room_key c.args.key.now c.args.text.now c.requires
+pub put_key-begin-requires : goal.put_key-begin-requires
+put_key-begin-requires c = room_key c.args.key.now c.args.text.now c.requires
 
-pub put-bytes-end-requires : goal.put-bytes-end-requires
-put-bytes-end-requires c =
-    room_value c.args.key.now c.args.text.now c.requires c.put-key-begin.auto.buffer c.put-key-begin.ensures
+pub put_bytes-end-requires : goal.put_bytes-end-requires
+put_bytes-end-requires c =
+    room_value c.args.key.now c.args.text.now c.requires c.put_key-begin.auto.buffer c.put_key-begin.ensures
 
-pub put-byte-requires : goal.put-byte-requires
-put-byte-requires c =
-    room_feed c.args.key.now c.args.text.now c.requires c.put-key-begin.auto.buffer c.put-key-begin.ensures
-    c.put-bytes-end.auto.buffer
-    c.put-bytes-end.ensures
+pub put_byte-requires : goal.put_byte-requires
+put_byte-requires c =
+    room_feed c.args.key.now c.args.text.now c.requires c.put_key-begin.auto.buffer c.put_key-begin.ensures
+    c.put_bytes-end.auto.buffer
+    c.put_bytes-end.ensures
 
 pub returns : goal.returns
 returns c =
-    wrote_line c.args.key.now c.args.text.now c.requires c.put-key-begin.auto.buffer c.put-key-begin.ensures
-    c.put-bytes-end.ensures
-    c.put-byte.ensures
+    wrote_line c.args.key.now c.args.text.now c.requires c.put_key-begin.auto.buffer c.put_key-begin.ensures
+    c.put_bytes-end.ensures
+    c.put_byte.ensures

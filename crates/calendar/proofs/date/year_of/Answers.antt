@@ -7,7 +7,7 @@ pub loop-year-preserved : goal.loop-year-preserved
 loop-year-preserved c =
     let from : 2000 ≤ c.loop-year.year = omega arith in
     let more = years_more c.loop-year.year from in
-    let long : c.from-days.result ≡ days_in_months (leap c.loop-year.year) 12 = c.from-days.ensures ∙ c.days-of-year.ensures ∙ ap (λ b. days_in_months b 12) c.is-leap.ensures in
+    let long : c.from-days.result ≡ days_in_months (leap c.loop-year.year) 12 = c.from-days.ensures ∙ c.days_of_year.ensures ∙ ap (λ b. days_in_months b 12) c.is_leap.ensures in
     omega (arith, more, long, c.loop-year.invariant)
 
 pub returns : goal.returns

@@ -24,9 +24,9 @@ moved room line next s t lines more a b e h = subst (λ (n : ℕ). job_from room
 pub loop-rest-preserved : goal.loop-rest-preserved
 loop-rest-preserved c =
     let before = c.loop-rest.sheet in
-    let after = c.body-line.new.sheet in
+    let after = c.body_line.new.sheet in
     let does = c.in-Ok.ensures in (
-      λ room. sym (moved room _ _ (job_model before c.loop-rest.off-peak) (job_model after c.body-line.new.off-peak) (said c.loop-rest.rest.now) (said c.in-Ok.behind.now) _ _ c.loop-rest.invariant.5 (does.goes.0 room))
+      λ room. sym (moved room _ _ (job_model before c.loop-rest.off_peak) (job_model after c.body_line.new.off_peak) (said c.loop-rest.rest.now) (said c.in-Ok.behind.now) _ _ c.loop-rest.invariant.5 (does.goes.0 room))
           ∙ c.loop-rest.invariant.0 room,
       omega arith,
       omega (arith, does.goes.1),
@@ -38,10 +38,10 @@ loop-rest-preserved c =
 pub returns-in-Err : goal.returns-in-Err
 returns-in-Err c =
     let before = c.loop-rest.sheet in
-    let after = c.body-line.new.sheet in
+    let after = c.body_line.new.sheet in
     let does = c.in-Err.ensures in
     record {
-      ends = λ room. let P : Ending → Type 0 = λ x. Halts x (sheet_model after) c.in-Err.stop in subst P (ap (λ n. job_from room n c.loop-rest.line (job_model before c.loop-rest.off-peak) (said c.loop-rest.rest.now)) c.loop-rest.invariant.5 ∙ c.loop-rest.invariant.0 room) (does.goes room);
+      ends = λ room. let P : Ending → Type 0 = λ x. Halts x (sheet_model after) c.in-Err.stop in subst P (ap (λ n. job_from room n c.loop-rest.line (job_model before c.loop-rest.off_peak) (said c.loop-rest.rest.now)) c.loop-rest.invariant.5 ∙ c.loop-rest.invariant.0 room) (does.goes room);
       rest =
           does.rest
           ∙ kept_on (sheet_storage c.args.sheet.now) (sheet_storage before) (sheet_held before) (sheet_held after) does.grows c.loop-rest.invariant.3;
@@ -54,7 +54,7 @@ returns c =
     record {
       ends =
           λ room. sym (c.loop-rest.invariant.0 room)
-          ∙ ends c.loop-rest.line (said c.loop-rest.rest.now) (said_nothing c.loop-rest.rest.now none) c.loop-rest.invariant.1 room (length (book_storage c.args.off-peak.now)) (job_model c.loop-rest.sheet c.loop-rest.off-peak);
+          ∙ ends c.loop-rest.line (said c.loop-rest.rest.now) (said_nothing c.loop-rest.rest.now none) c.loop-rest.invariant.1 room (length (book_storage c.args.off_peak.now)) (job_model c.loop-rest.sheet c.loop-rest.off_peak);
       rest = c.loop-rest.invariant.3;
       named = c.loop-rest.invariant.4;
     }

@@ -41,11 +41,11 @@ stopped room e why = and_then (whole_state e.state why) (λ s. and_then (bill_of
 pub returns-in-Err-new : goal.returns-in-Err-new
 returns-in-Err-new c =
     let e =
-    month_refused c.args.text.now (length c.args.storage.now) c.in-ok-bytes.bytes.now (said c.in-ok-bytes.rest.now) c.in-ok-year.year c.in-ok-year.number (said c.in-ok-year.rest.now)
-    c.if-text-gt-LONGEST-TEXT.false
-    c.in-ok-bytes.ensures.0
+    month_refused c.args.text.now (length c.args.storage.now) c.in_ok-bytes.bytes.now (said c.in_ok-bytes.rest.now) c.in_ok-year.year c.in_ok-year.number (said c.in_ok-year.rest.now)
+    c.if-text-gt-LONGEST_TEXT.false
+    c.in_ok-bytes.ensures.0
     c.in-Ok.ensures.0
-    c.in-ok-year.ensures.0
+    c.in_ok-year.ensures.0
     c.in-Err-new.refusal
     c.in-Err-new.ensures in
     record {
@@ -66,24 +66,24 @@ body_decides xs room places bytes year number rest last begun booked e goes same
 pub returns-in-Err-body : goal.returns-in-Err-body
 returns-in-Err-body c =
     let room = length c.args.storage.now in
-    let bytes = c.in-ok-bytes.bytes.now in
-    let year = c.in-ok-year.year in
-    let number = c.in-ok-year.number in
+    let bytes = c.in_ok-bytes.bytes.now in
+    let year = c.in_ok-year.year in
+    let number = c.in_ok-year.number in
     let begun = sheet_model c.open-sheet.result in
     let same : begun ≡ opened bytes year number room =
     opened_so begun _ bytes _ year _ number room c.open-sheet.ensures.model c.in-Ok.ensures.1 c.in-Ok-new.ensures.1 c.in-Ok-new.ensures.2 in
     let e =
-    body_decides c.args.text.now room (length (book_storage c.open-off-peak.result)) bytes year number (said c.in-ok-year.rest.now) (said c.in-ok-rest.rest.now) begun (book_entries c.open-off-peak.result)
-    (job_runs c.args.text.now room bytes (said c.in-ok-bytes.rest.now) year number (said c.in-ok-year.rest.now)
-    c.if-text-gt-LONGEST-TEXT.false
-    c.in-ok-bytes.ensures.0
+    body_decides c.args.text.now room (length (book_storage c.open-off_peak.result)) bytes year number (said c.in_ok-year.rest.now) (said c.in_ok-rest.rest.now) begun (book_entries c.open-off_peak.result)
+    (job_runs c.args.text.now room bytes (said c.in_ok-bytes.rest.now) year number (said c.in_ok-year.rest.now)
+    c.if-text-gt-LONGEST_TEXT.false
+    c.in_ok-bytes.ensures.0
     c.in-Ok.ensures.0
-    c.in-ok-year.ensures.0
+    c.in_ok-year.ensures.0
     c.in-Ok-new.ensures.0)
-    c.in-ok-rest.ensures.0
+    c.in_ok-rest.ensures.0
     same
-    c.open-off-peak.ensures.entries
-    (let whole = ap length c.open-off-peak.ensures.untouched in search rules) in
+    c.open-off_peak.ensures.entries
+    (let whole = ap length c.open-off_peak.ensures.untouched in search rules) in
     let end = c.body.new.sheet in
     let halts = c.in-Err-body.ensures.ends room in
     let why : (job_ending c.args.text.now room).why ≡ Some c.in-Err-body.stop = ap (λ (x : Ending). x.why) e ∙ halts.0 in
@@ -101,31 +101,31 @@ returns-in-Err-body c =
 pub returns : goal.returns
 returns c =
     let room = length c.args.storage.now in
-    let bytes = c.in-ok-bytes.bytes.now in
-    let year = c.in-ok-year.year in
-    let number = c.in-ok-year.number in
+    let bytes = c.in_ok-bytes.bytes.now in
+    let year = c.in_ok-year.year in
+    let number = c.in_ok-year.number in
     let begun = sheet_model c.open-sheet.result in
     let same : begun ≡ opened bytes year number room =
     opened_so begun _ bytes _ year _ number room c.open-sheet.ensures.model c.in-Ok.ensures.1 c.in-Ok-new.ensures.1 c.in-Ok-new.ensures.2 in
     let e =
-    body_decides c.args.text.now room (length (book_storage c.open-off-peak.result)) bytes year number (said c.in-ok-year.rest.now) (said c.in-ok-rest.rest.now) begun (book_entries c.open-off-peak.result)
-    (job_runs c.args.text.now room bytes (said c.in-ok-bytes.rest.now) year number (said c.in-ok-year.rest.now)
-    c.if-text-gt-LONGEST-TEXT.false
-    c.in-ok-bytes.ensures.0
+    body_decides c.args.text.now room (length (book_storage c.open-off_peak.result)) bytes year number (said c.in_ok-year.rest.now) (said c.in_ok-rest.rest.now) begun (book_entries c.open-off_peak.result)
+    (job_runs c.args.text.now room bytes (said c.in_ok-bytes.rest.now) year number (said c.in_ok-year.rest.now)
+    c.if-text-gt-LONGEST_TEXT.false
+    c.in_ok-bytes.ensures.0
     c.in-Ok.ensures.0
-    c.in-ok-year.ensures.0
+    c.in_ok-year.ensures.0
     c.in-Ok-new.ensures.0)
-    c.in-ok-rest.ensures.0
+    c.in_ok-rest.ensures.0
     same
-    c.open-off-peak.ensures.entries
-    (let whole = ap length c.open-off-peak.ensures.untouched in search rules) in
+    c.open-off_peak.ensures.entries
+    (let whole = ap length c.open-off_peak.ensures.untouched in search rules) in
     let end = c.body.new.sheet in
-    let done : job_ending c.args.text.now room ≡ ending (job_model end c.body.new.off-peak) None = e ∙ c.in-default.ensures.ends room in
+    let done : job_ending c.args.text.now room ≡ ending (job_model end c.body.new.off_peak) None = e ∙ c.in_default.ensures.ends room in
     record {
-      answer = c.print-sheet.ensures.answer ∙ ap (λ x. printed_bytes (print_of (length c.args.buffer.now) x)) (sym done);
-      written = c.print-sheet.ensures.written ∙ ap (λ x. buffer_after (print_of (length c.args.buffer.now) x) c.args.buffer.now) (sym done);
+      answer = c.print_sheet.ensures.answer ∙ ap (λ x. printed_bytes (print_of (length c.args.buffer.now) x)) (sym done);
+      written = c.print_sheet.ensures.written ∙ ap (λ x. buffer_after (print_of (length c.args.buffer.now) x) c.args.buffer.now) (sym done);
       stored =
           by_way (sheet_storage end) (search rules)
-          (filled end c.args.storage.now (c.in-default.ensures.rest ∙ ap (drop (sheet_held end)) c.open-sheet.ensures.untouched)
+          (filled end c.args.storage.now (c.in_default.ensures.rest ∙ ap (drop (sheet_held end)) c.open-sheet.ensures.untouched)
           ∙ ap (λ x. storage_after x c.args.storage.now) (sym done));
     }

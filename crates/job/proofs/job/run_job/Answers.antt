@@ -19,5 +19,5 @@ returns-in-Ok c =
       answer = ap outcome_of c.in-Ok.ensures.answer;
       written = c.in-Ok.ensures.written;
       stored = c.in-Ok.ensures.stored;
-      within = kept_within p c.args.buffer.now c.print-job.new.buffer c.in-Ok.count c.in-Ok.ensures.answer c.in-Ok.ensures.written c.print-job.auto.buffer;
+      within = kept_within p c.args.buffer.now c.print_job.new.buffer c.in-Ok.count c.in-Ok.ensures.answer c.in-Ok.ensures.written c.print_job.auto.buffer;
     }

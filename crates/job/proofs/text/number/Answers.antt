@@ -41,17 +41,17 @@ some_bytes xs e = omega (arith, eqb-false (length xs) 0 (sym e))
 room : (n d i b : ℕ) → n < 10 ^ i → i < 8 → Some d ≡ digit_of b → (n < 10 ^ 7) × (d < 10)
 room n d i b h k e = (few n i h k, a_digit b d (sym e))
 
-pub returns-in-default : goal.returns-in-default
-returns-in-default c =
+pub returns-in_default : goal.returns-in_default
+returns-in_default c =
     let xs = c.args.digits.now in
-    sym (sized xs (some_bytes xs c.if-is-empty.ensures) (omega arith)
-    ∙ (sym c.loop-b.invariant.0 ∙ unread c.loop-b.n xs c.loop-b.b-index (omega arith) (sym c.in-default.ensures)))
+    sym (sized xs (some_bytes xs c.if-is_empty.ensures) (omega arith)
+    ∙ (sym c.loop-b.invariant.0 ∙ unread c.loop-b.n xs c.loop-b.b-index (omega arith) (sym c.in_default.ensures)))
 
-pub overflow-mul-n : goal.overflow-mul-n
-overflow-mul-n c = omega (arith, room c.loop-b.n c.in-Some.d c.loop-b.b-index (get_or c.args.digits.now c.loop-b.b-index 0) c.loop-b.invariant.1 (omega arith) c.in-Some.ensures)
+pub overflow_mul-n : goal.overflow_mul-n
+overflow_mul-n c = omega (arith, room c.loop-b.n c.in-Some.d c.loop-b.b-index (get_or c.args.digits.now c.loop-b.b-index 0) c.loop-b.invariant.1 (omega arith) c.in-Some.ensures)
 
-pub overflow-add-n : goal.overflow-add-n
-overflow-add-n c = omega (arith, room c.loop-b.n c.in-Some.d c.loop-b.b-index (get_or c.args.digits.now c.loop-b.b-index 0) c.loop-b.invariant.1 (omega arith) c.in-Some.ensures)
+pub overflow_add-n : goal.overflow_add-n
+overflow_add-n c = omega (arith, room c.loop-b.n c.in-Some.d c.loop-b.b-index (get_or c.args.digits.now c.loop-b.b-index 0) c.loop-b.invariant.1 (omega arith) c.in-Some.ensures)
 
 pub loop-b-preserved : goal.loop-b-preserved
 loop-b-preserved c =
@@ -63,5 +63,5 @@ loop-b-preserved c =
 pub returns : goal.returns
 returns c =
     let xs = c.args.digits.now in
-    sym (sized xs (some_bytes xs c.if-is-empty.ensures) (omega arith)
+    sym (sized xs (some_bytes xs c.if-is_empty.ensures) (omega arith)
     ∙ (sym c.loop-b.invariant.0 ∙ at_drop_all (number_after c.loop-b.n) xs c.loop-b.b-index (omega arith)))

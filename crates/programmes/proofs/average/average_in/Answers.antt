@@ -3,4 +3,4 @@ use Rattle.programmes.specs.Amounts.{same_average}
 use Rattle.programmes.proofs.average.average_in.Goals as goal
 
 pub returns : goal.returns
-returns c = same_average _ _ _ _ _ c.quotient.ensures (c.from.ensures ∙ c.kw-on-kw.ensures.value) c.slots-in.ensures.value
+returns c = same_average _ _ _ _ _ c.quotient.ensures (c.from.ensures ∙ c.kw_on-kw.ensures.value) c.slots_in.ensures.value

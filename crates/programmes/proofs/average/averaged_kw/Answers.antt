@@ -11,32 +11,32 @@ use Rattle.programmes.proofs.average.averaged_kw.Goals as goal
 pub loop-earlier-init : goal.loop-earlier-init
 loop-earlier-init c = (refl, omega arith)
 
-pub kw-on-sum-requires : goal.kw-on-sum-requires
-kw-on-sum-requires c =
-    let is = c.as-slice-earlier-items.ensures ∙ c.days-to-average.ensures.days in
+pub kw_on-sum-requires : goal.kw_on-sum-requires
+kw_on-sum-requires c =
+    let is = c.as_slice-earlier-items.ensures ∙ c.days_to_average.ensures.days in
     let before = item_before _ _ c.loop-earlier.earlier-index is (eligible (site_model c.args.site.now)) 5 c.args.day refl c.loop-earlier-test.true in
     record { full = c.requires.full; within = omega (arith, before, c.requires.within) }
 
-pub overflow-add-sum : goal.overflow-add-sum
-overflow-add-sum c =
-    let is = c.as-slice-earlier-items.ensures ∙ c.days-to-average.ensures.days in
+pub overflow_add-sum : goal.overflow_add-sum
+overflow_add-sum c =
+    let is = c.as_slice-earlier-items.ensures ∙ c.days_to_average.ensures.days in
     let few = latest_few 5 (eligible (site_model c.args.site.now)) c.args.day in
     let long = ap length is in
     let test = c.loop-earlier-test.true in
-    omega (arith, few, long, test, c.loop-earlier.invariant.1, c.kw-on-sum.ensures.bound)
+    omega (arith, few, long, test, c.loop-earlier.invariant.1, c.kw_on-sum.ensures.bound)
 
 pub loop-earlier-preserved : goal.loop-earlier-preserved
 loop-earlier-preserved c =
-    let is = c.as-slice-earlier-items.ensures ∙ c.days-to-average.ensures.days in
+    let is = c.as_slice-earlier-items.ensures ∙ c.days_to_average.ensures.days in
     let f : ℕ → ℕ = λ e. kw_in (holds c.args.part.now) (demand c.args.lead.now c.args.readings.now e) in (
-      item_adds _ _ c.loop-earlier.earlier-index is f _ _ c.loop-earlier-test.true c.loop-earlier.invariant.0 c.kw-on-sum.ensures.value,
-      omega (arith, c.loop-earlier.invariant.1, c.kw-on-sum.ensures.bound),
+      item_adds _ _ c.loop-earlier.earlier-index is f _ _ c.loop-earlier-test.true c.loop-earlier.invariant.0 c.kw_on-sum.ensures.value,
+      omega (arith, c.loop-earlier.invariant.1, c.kw_on-sum.ensures.bound),
     )
 
 pub returns : goal.returns
 returns c =
     let es = averaged (site_model c.args.site.now) c.args.day in
-    let is = c.as-slice-earlier-items.ensures ∙ c.days-to-average.ensures.days in
+    let is = c.as_slice-earlier-items.ensures ∙ c.days_to_average.ensures.days in
     let few = latest_few 5 (eligible (site_model c.args.site.now)) c.args.day in
     let long = ap length is in
     let done = c.loop-earlier-test.false in

@@ -3,8 +3,8 @@ use Rattle.programmes.specs.Bids.{basic_credit}
 use Rattle.programmes.specs.BidLaws.{basic_missed, basic_bounded}
 use Rattle.programmes.proofs.bid.basic_credit.Goals as goal
 
-pub overflow-mul-whole-else-missed-eq0 : goal.overflow-mul-whole-else-missed-eq0
-overflow-mul-whole-else-missed-eq0 c =
+pub overflow_mul-whole-else-missed-eq0 : goal.overflow_mul-whole-else-missed-eq0
+overflow_mul-whole-else-missed-eq0 c =
     let a : c.from.result ≤ 40000 = omega arith in
     let b : c.from-2.result ≤ 6000 = omega arith in
     let d : c.from-else-missed-eq0.result ≤ 31 = omega arith in
@@ -24,7 +24,7 @@ pub returns-else-missed-eq0 : goal.returns-else-missed-eq0
 returns-else-missed-eq0 c =
     let value =
     basic_missed c.args.reduction c.args.rate c.args.calls c.args.missed _ _ _ _ _ c.from.ensures c.from-2.ensures
-    (c.from-else-missed-eq0.ensures ∙ c.saturating-sub.ensures)
+    (c.from-else-missed-eq0.ensures ∙ c.saturating_sub.ensures)
     c.from-else-missed-eq0-2.ensures
     c.if-missed-eq0.false
     c.quotient.ensures in

@@ -8,10 +8,10 @@ use Rattle.programmes.proofs.month_calls.length_not_taken.Goals as goal
 pub loop-k-init : goal.loop-k-init
 loop-k-init c = some_none _
 
-pub returns-then-is-length-not-taken : goal.returns-then-is-length-not-taken
-returns-then-is-length-not-taken c =
-    day_finds (site_model c.args.site.now) Programme (λ _ c. not (eqb c.hours 2 || eqb c.hours 4)) c.loop-k.k _ _ (omega (arith, c.loop-k-test.true, c.days-k-end.ensures.value)) c.is-length-not-taken.ensures c.call.ensures c.if-is-length-not-taken.true
+pub returns-then-is_length_not_taken : goal.returns-then-is_length_not_taken
+returns-then-is_length_not_taken c =
+    day_finds (site_model c.args.site.now) Programme (λ _ c. not (eqb c.hours 2 || eqb c.hours 4)) c.loop-k.k _ _ (omega (arith, c.loop-k-test.true, c.days-k-end.ensures.value)) c.is_length_not_taken.ensures c.call.ensures c.if-is_length_not_taken.true
 
 pub loop-k-preserved : goal.loop-k-preserved
 loop-k-preserved c =
-    day_passes (site_model c.args.site.now) Programme (λ _ c. not (eqb c.hours 2 || eqb c.hours 4)) c.loop-k.k _ _ c.loop-k.invariant c.is-length-not-taken.ensures c.call.ensures c.if-is-length-not-taken.false
+    day_passes (site_model c.args.site.now) Programme (λ _ c. not (eqb c.hours 2 || eqb c.hours 4)) c.loop-k.k _ _ c.loop-k.invariant c.is_length_not_taken.ensures c.call.ensures c.if-is_length_not_taken.false

@@ -23,10 +23,10 @@ pub returns : goal.returns
 returns c =
     let es = book_entries c.args.book.now in
     let places = length (book_storage c.args.book.now) in
-    let is = c.in-ok-entry.ensures.1 in
+    let is = c.in_ok-entry.ensures.1 in
     record {
-      answer = c.add.ensures.answer ∙ answered es places c.args.day c.in-ok-entry.entry is;
-      after = c.add.ensures.after ∙ left es places c.args.day c.in-ok-entry.entry is;
+      answer = c.add.ensures.answer ∙ answered es places c.args.day c.in_ok-entry.entry is;
+      after = c.add.ensures.after ∙ left es places c.args.day c.in_ok-entry.entry is;
       refused = c.add.ensures.refused;
       room = c.add.ensures.room;
       named = c.add.ensures.named;

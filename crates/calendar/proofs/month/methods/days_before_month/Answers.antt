@@ -5,7 +5,7 @@ use Rattle.calendar.proofs.month.methods.days_before_month.Goals as goal
 
 pub loop-earlier-preserved : goal.loop-earlier-preserved
 loop-earlier-preserved c =
-    let b = c.args.leap-year in
+    let b = c.args.leap_year in
     let m = c.loop-earlier.earlier in
     let from : 1 ≤ m = omega arith in
     let more : days_in_months b (m - 1) + month_length b m ≡ days_in_months b m = months_more b m from in

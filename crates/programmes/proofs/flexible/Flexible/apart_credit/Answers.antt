@@ -8,12 +8,12 @@ returns g c =
     record {
       value =
           apart_sums (g.P.Programme.meaning c.args.self.now.lower) (site_model c.args.site.now) (demand c.args.lead.now c.args.readings.now) c.args.day c.args.call
-          c.own-call.result c.worth.result c.five-day.result c.average-in-average.result c.saturating-sub-reduction.result c.slots-in.result c.from.result
-          c.own-call.ensures
-          c.five-day.ensures.value
-          c.average-in-average.ensures
-          c.saturating-sub-reduction.ensures
-          c.slots-in.ensures.value
+          c.own_call.result c.worth.result c.five_day.result c.average_in-average.result c.saturating_sub-reduction.result c.slots_in.result c.from.result
+          c.own_call.ensures
+          c.five_day.ensures.value
+          c.average_in-average.ensures
+          c.saturating_sub-reduction.ensures
+          c.slots_in.ensures.value
           c.from.ensures
           c.worth.ensures.value;
       bound = c.worth.ensures.bound;

@@ -6,7 +6,7 @@ pub worth-requires : goal.worth-requires
 worth-requires g c =
     let low = baseline_at (g.P.Programme.meaning c.args.self.now.lower) (g.met.P.Programme.lawful c.args.self.now.lower) c.args.site.now c.args.lead.now c.args.readings.now c.requires.granted c.requires.full c.args.day c.requires.from c.requires.within in
     record {
-      grains = omega (arith, low, c.baseline.ensures, c.saturating-sub-reduction.ensures, c.saturating-sub.ensures);
-      slots = c.slots-in.ensures.few;
-      cents = omega (arith, c.saturating-sub-price.ensures, c.from.ensures);
+      grains = omega (arith, low, c.baseline.ensures, c.saturating_sub-reduction.ensures, c.saturating_sub.ensures);
+      slots = c.slots_in.ensures.few;
+      cents = omega (arith, c.saturating_sub-price.ensures, c.from.ensures);
     }

@@ -21,8 +21,8 @@ loop-k-preserved g c =
       omega (arith, c.loop-k.invariant.1, c.added-added.ensures.bound),
     )
 
-pub overflow-add-result : goal.overflow-add-result
-overflow-add-result g c =
+pub overflow_add-result : goal.overflow_add-result
+overflow_add-result g c =
     let m = g.P.Programme.meaning c.args.self.now.lower in
     let site = c.args.site.now in
     let asked = full_asked m site c.args.lead.now c.args.readings.now (beneath (m.refusal (site_model site)) _ c.requires.granted) c.requires.full in

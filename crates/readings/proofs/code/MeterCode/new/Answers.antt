@@ -21,14 +21,14 @@ code_like text other e same =
 granted : (text : List ℕ) → is_code text ≡ true → code_refusal text ≡ None
 granted text e = simp e
 
-pub invariant-of-result : goal.invariant-of-result
-invariant-of-result c =
+pub invariant_of-result : goal.invariant_of-result
+invariant_of-result c =
     let text = c.args.text.now in (
       omega arith,
       (
         code_like text _
-            (passed text (omega arith) (omega arith) c.if-not-is-printable.ensures)
-            (front text c.copy-from-slice.new.self _ c.copy-from-slice.ensures.after),
+            (passed text (omega arith) (omega arith) c.if-not-is_printable.ensures)
+            (front text c.copy_from_slice.new.self _ c.copy_from_slice.ensures.after),
         tt,
       ),
     )
@@ -36,6 +36,6 @@ invariant-of-result c =
 pub returns : goal.returns
 returns c =
     let text = c.args.text.now in (
-      granted text (passed text (omega arith) (omega arith) c.if-not-is-printable.ensures),
-      front text c.copy-from-slice.new.self _ c.copy-from-slice.ensures.after,
+      granted text (passed text (omega arith) (omega arith) c.if-not-is_printable.ensures),
+      front text c.copy_from_slice.new.self _ c.copy_from_slice.ensures.after,
     )
