@@ -26,5 +26,5 @@ overflow_add-result g c =
     let m = g.P.Programme.meaning c.args.self.now.lower in
     let site = c.args.site.now in
     let asked = full_asked m site c.args.lead.now c.args.readings.now (beneath (m.refusal (site_model site)) _ c.requires.granted) c.requires.full in
-    let below = (g.met.P.BareProgramme.bare c.args.self.now.lower).bare-credit (site_model site) (demand c.args.lead.now c.args.readings.now) asked in
+    let below = (g.met.P.BareProgramme.bare c.args.self.now.lower).bare_credit (site_model site) (demand c.args.lead.now c.args.readings.now) asked in
     omega (arith, below, c.settle-credit.ensures.credit, c.loop-k.invariant.1, c.loop-k.auto.k-end, c.days-k-end.ensures.short)

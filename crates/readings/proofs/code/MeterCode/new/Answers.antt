@@ -23,15 +23,14 @@ granted text e = simp e
 
 pub invariant_of-result : goal.invariant_of-result
 invariant_of-result c =
-    let text = c.args.text.now in (
-      omega arith,
-      (
-        code_like text _
-            (passed text (omega arith) (omega arith) c.if-not-is_printable.ensures)
-            (front text c.copy_from_slice.new.self _ c.copy_from_slice.ensures.after),
-        tt,
-      ),
-    )
+    let text = c.args.text.now in
+    record {
+      short = omega arith;
+      printable =
+          code_like text _
+              (passed text (omega arith) (omega arith) c.if-not-is_printable.ensures)
+              (front text c.copy_from_slice.new.self _ c.copy_from_slice.ensures.after);
+    }
 
 pub returns : goal.returns
 returns c =
