@@ -18,3 +18,6 @@ pub use figures::figures_shown;
 pub use issued::Issued;
 pub use items::Items;
 pub use quote::plain_quote;
+
+#[cfg(test)]
+mod tests;

@@ -1,9 +1,6 @@
 // The calendar at its edges.
-use super::*;
-use crate::date::{DateDebug, DatePartialEq};
-use crate::day::{DayKindDebug, DayKindPartialEq, WeekdayDebug, WeekdayPartialEq};
-use crate::refusal::{RefusalDebug, RefusalPartialEq};
-use crate::season::{SeasonDebug, SeasonPartialEq};
+use books::{Book, Call, Entry, OffPeakDay, is_off_peak};
+use calendar::{Date, DayKind, Month, Refusal, Season, Weekday, day_number};
 use std::test::Fail;
 
 fn month(year: u32, month: u32) -> Result<Month, Fail> {

@@ -1,19 +1,7 @@
 // Lines and their forms, and jobs from their text to their outcome.
-use crate::job::run_job;
-use crate::outcome::Outcome;
-use crate::statement::{ProgrammeName, Statement};
-use crate::text::number;
 use calendar::Refusal;
-
-#[test]
-fn numbers_have_1_to_8_digits(rt: HostRuntime) {
-    assert_eq!(rt; number(b"99999999"), Some(99_999_999));
-    assert_eq!(rt; number(b"00000040"), Some(40));
-    assert_eq!(rt; number(b"000000040"), None);
-    assert_eq!(rt; number(b""), None);
-    assert_eq!(rt; number(b"+4"), None);
-    assert_eq!(rt; number(b"4 "), None);
-}
+use job::statement::{ProgrammeName, Statement};
+use job::{Outcome, run_job};
 
 #[test]
 fn months_and_dates(rt: HostRuntime) {

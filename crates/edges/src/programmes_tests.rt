@@ -1,7 +1,7 @@
 // The bid and the layer over it on worked figures, and what they refuse.
-use super::*;
 use books::Call;
 use calendar::{Month, Refusal};
+use programmes::{Bid, BidTerms, Flexible, NoProgramme, Programme, Site};
 use readings::any_above;
 use std::test::Fail;
 

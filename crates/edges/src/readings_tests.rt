@@ -1,7 +1,6 @@
 // Codes at their limits, and blocks granted and refused.
-use crate::code::MeterCode;
-use crate::sheet::{HIGHEST_READING, Sheet};
 use calendar::{Month, Refusal};
+use readings::{HIGHEST_READING, MeterCode, Sheet};
 use std::test::Fail;
 
 const EAST_A: &[u8] = b"PARK-EAST-12-A";

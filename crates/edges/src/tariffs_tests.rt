@@ -1,10 +1,8 @@
-// Tariffs at the edges of their stretches, capacities at their limits, and an excess in every rank.
-use super::*;
-use crate::excess::lines_charge;
-use crate::rank::{ByRankDebug, ByRankPartialEq, RankDebug, RankPartialEq};
+// Tariffs at the edges of their stretches, and capacities at their limits.
 use calendar::{DayKind, Refusal, Season};
 use std::process::Abort;
 use std::test::Fail;
+use tariffs::{ByRank, Capacities, ContractTariff, H3, L2, Rank, S3, Tariff};
 
 // The last slot of a stretch, its rank, and the rank of the next slot.
 #[derive(Clone, Copy)]
@@ -146,20 +144,4 @@ fn capacities_allow_and_cost(rt: HostRuntime) -> Result<(), Fail> {
     assert_eq!(rt; L2.capacity_charge(Season::Summer, small), 1_133_600);
     assert_eq!(rt; 4 * u64::from(L2.household_price()), 105_000);
     Ok(())
-}
-
-#[test]
-fn an_excess_is_charged_once(rt: HostRuntime) {
-    let allowances = by_rank(10, 20, 25, 30);
-    let lines = excess_lines(by_rank(11, 22, 30, 37), allowances);
-    assert_eq!(rt; lines, by_rank(1, 1, 3, 2));
-    let prices = ByRank {
-        peak: 23_620,
-        semi_peak: 17_320,
-        saturday: 4_720,
-        off_peak: 4_720,
-    };
-    assert_eq!(rt; lines_charge(lines, allowances, prices), 516_320);
-    assert_eq!(rt; tenth(24), 2);
-    assert_eq!(rt; tenth(25), 3);
 }

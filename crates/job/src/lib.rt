@@ -12,3 +12,6 @@ mod text;
 
 pub use job::{LONGEST_TEXT, run_job};
 pub use outcome::Outcome;
+
+#[cfg(test)]
+mod tests;

@@ -19,3 +19,6 @@ pub use l2::L2;
 pub use rank::{ByRank, Rank};
 pub use s3::S3;
 pub use tariff::Tariff;
+
+#[cfg(test)]
+mod tests;
