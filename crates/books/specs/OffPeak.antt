@@ -1,5 +1,5 @@
 -- Off-peak days. Assumes nothing.
-use Rattle.std.specs.Prelude.{ℕ, Bool, cond, List, is_some, Some, None, Ok, Err, Option, Result, nat_lt}
+use Rattle.std.specs.Prelude.{ℕ, Bool, cond, List, is_some, Some, None, Err, Option, Result, nat_lt}
 use Rattle.std.proofs.Math.Decide.{dec_le}
 use Rattle.calendar.specs.declared.day.DayKind.{DayKind}
 use Rattle.books.specs.declared.off_peak.OffPeakDay.{OffPeakDay}

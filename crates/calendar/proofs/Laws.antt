@@ -1,11 +1,10 @@
 -- The calendar's laws. Assumes nothing.
-use Rattle.std.proofs.Common.{◌≡◌, ℕ, zero, suc, ◌+◌, ◌-◌, ◌%◌, ◌<◌, ◌≤◌, Bool, true, false, cond, ◌&&◌, eqb, leb, ◌⊎◌, Some, None, Option, sym, refl, ap, ◌∙◌, subst, inl, inr, arith}
-use Rattle.std.proofs.lemmas.Bool.{and_parts, leb-true, cases_Bool, cases_lt, cases_order, eqb-true, eqb-false}
+use Rattle.std.proofs.Common.{◌≡◌, ℕ, zero, suc, ◌+◌, ◌-◌, ◌%◌, ◌<◌, ◌≤◌, Bool, true, false, cond, ◌&&◌, eqb, leb, Some, None, sym, refl, ap, ◌∙◌, subst, inl, inr, arith}
+use Rattle.std.proofs.lemmas.Bool.{and_parts, leb-true, cases_Bool, cases_lt, cases_order, eqb-true}
 use Rattle.std.proofs.lemmas.Bool.Decides.{nat_tests}
-use Rattle.calendar.specs.CalendarLaws.{next_year, next_month, Abuts, Earlier, LaterIsLarger, OneDate, next_weekday, GoesRound}
+use Rattle.calendar.specs.CalendarLaws.{Abuts, Earlier, LaterIsLarger, OneDate, GoesRound}
 use Rattle.calendar.specs.Dates.{is_date, date_day, Within}
-use Rattle.calendar.specs.Days.{weekday_of}
-use Rattle.calendar.specs.Gregorian.{leap, month_length, days_in_months, days_in_years, first_day_of, length_of, month_refusal}
+use Rattle.calendar.specs.Gregorian.{leap, days_in_months, days_in_years, first_day_of, length_of, month_refusal}
 use Rattle.calendar.specs.declared.refusal.Refusal.{Refusal}
 use Rattle.calendar.proofs.Years.{months_more, years_more}
 

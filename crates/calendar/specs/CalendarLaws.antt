@@ -1,5 +1,5 @@
 -- What the calendar's definitions come to, in the words of the calendar. Assumes nothing.
-use Rattle.std.specs.Prelude.{◌≡◌, ℕ, ◌+◌, ◌<◌, ◌≤◌, cond, ◌⊎◌, Some, ◌==◌}
+use Rattle.std.specs.Prelude.{◌≡◌, ℕ, ◌+◌, ◌<◌, cond, ◌⊎◌, Some, ◌==◌}
 use Rattle.calendar.specs.declared.day.Weekday.{Weekday}
 use Rattle.calendar.specs.declared.day.Weekday.TheVariants.{Monday, Tuesday, Wednesday, Thursday, Friday, Saturday, Sunday}
 use Rattle.calendar.specs.Dates.{date_day}

@@ -1,5 +1,5 @@
 -- Weekdays and kinds of day. Days are counted from 1 January 2000, which is day 0. Assumes nothing.
-use Rattle.std.specs.Prelude.{ℕ, ◌%◌, Bool, true, false, cond, List, [], ◌∷◌, ◌==◌}
+use Rattle.std.specs.Prelude.{ℕ, ◌%◌, Bool, cond, ◌==◌}
 use Rattle.calendar.specs.declared.day.DayKind.{DayKind}
 use Rattle.calendar.specs.declared.day.DayKind.TheVariants as kind
 use Rattle.calendar.specs.declared.day.Weekday.{Weekday}

@@ -1,5 +1,5 @@
 -- Laws of sums and tests over the numbers below a bound. Assumes nothing.
-use Rattle.std.specs.Prelude.{◌≡◌, ℕ, zero, suc, ◌+◌, ◌*◌, ◌<◌, ◌≤◌, Bool, true, false, ◌||◌, ◌⊎◌, refl}
+use Rattle.std.specs.Prelude.{◌≡◌, ℕ, zero, suc, ◌+◌, ◌*◌, ◌<◌, ◌≤◌, Bool, true, false, ◌||◌, refl}
 use Rattle.std.proofs.Common.{subst, ⊎_elim, mul-add, add-one, arith}
 use Rattle.std.proofs.lemmas.Bool.{cases_order, or_left, or_right}
 use Rattle.programmes.specs.Sums.{sum_below, some_below}

@@ -1,4 +1,4 @@
-use Rattle.std.proofs.Common.{◌≡◌, codes, sym, ap, to_z-of_z, w64, SFits, to_z, of_z, rules}
+use Rattle.std.proofs.Common.{codes, sym, ap, to_z-of_z, w64, SFits, rules}
 use Rattle.std.specs.Fmt.{signed_decimal}
 use Rattle.bill.specs.PrintText.{line}
 use Rattle.bill.proofs.Writing.{room_as, room_first, room_then, then_wrote, wrote_as}

@@ -1,4 +1,4 @@
-use Rattle.std.proofs.Common.{◌≡◌, ℕ, List, ◌∷◌, pos, nat_abs, ◌<ℤ◌, decimal, sym, ap, ◌∙◌, to_z-of_z, rules}
+use Rattle.std.proofs.Common.{◌≡◌, ◌∷◌, pos, nat_abs, ◌<ℤ◌, decimal, sym, rules}
 use Rattle.std.specs.Fmt.{signed_decimal}
 use Rattle.bill.proofs.Writing.{room_as, then_wrote, wrote_as, signed_below}
 use Rattle.bill.proofs.write.put_signed.Goals as goal

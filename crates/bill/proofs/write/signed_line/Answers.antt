@@ -1,4 +1,4 @@
-use Rattle.std.proofs.Common.{◌≡◌, ℤ, sym, ap, to_z-of_z, w64, to_z, of_z}
+use Rattle.std.proofs.Common.{◌≡◌, sym, ap, to_z-of_z, w64, to_z, of_z}
 use Rattle.std.specs.Fmt.{signed_decimal}
 use Rattle.bill.proofs.Writing.{room_as, wrote_as}
 use Rattle.bill.proofs.Lines.{room_key, room_value, room_feed, wrote_line}

@@ -1,4 +1,4 @@
-use Rattle.std.proofs.Common.{◌≡◌, ◌<◌, ◌≤◌, sym, ◌∙◌, arith}
+use Rattle.std.proofs.Common.{◌<◌, ◌≤◌, arith}
 use Rattle.books.proofs.Books.{place_here, place_further, place_behind}
 use Rattle.books.proofs.book.place_among.Goals as goal
 

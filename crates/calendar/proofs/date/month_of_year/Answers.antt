@@ -1,4 +1,4 @@
-use Rattle.std.proofs.Common.{◌≡◌, ℕ, ◌+◌, ◌-◌, ◌≤◌, ap, ◌∙◌, arith, rules}
+use Rattle.std.proofs.Common.{◌≡◌, ◌+◌, ◌-◌, ◌≤◌, ap, ◌∙◌, arith}
 use Rattle.calendar.specs.Gregorian.{days_in_months, month_length}
 use Rattle.calendar.proofs.Years.{months_more}
 use Rattle.calendar.proofs.date.month_of_year.Goals as goal

@@ -1,4 +1,4 @@
-use Rattle.std.proofs.Common.{◌≡◌, ℕ, ◌+◌, ◌-◌, ◌≤◌, ap, ◌∙◌, arith, rules}
+use Rattle.std.proofs.Common.{◌≡◌, ◌-◌, ◌≤◌, ap, ◌∙◌, arith}
 use Rattle.calendar.specs.Gregorian.{leap, days_in_years, days_in_months}
 use Rattle.calendar.proofs.Years.{years_more}
 use Rattle.calendar.proofs.date.year_of.Goals as goal

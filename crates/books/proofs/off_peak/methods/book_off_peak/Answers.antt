@@ -1,10 +1,10 @@
-use Rattle.std.proofs.Common.{◌≡◌, ℕ, List, length, Some, None, Ok, Err, Option, Result, sym, ap, ◌∙◌, rules}
+use Rattle.std.proofs.Common.{◌≡◌, ℕ, List, length, Some, None, Err, Option, Result, sym, ap, ◌∙◌}
 use Rattle.books.specs.declared.off_peak.OffPeakDay.{OffPeakDay}
 use Rattle.calendar.specs.declared.refusal.Refusal.{Refusal}
 use Rattle.calendar.specs.declared.refusal.Refusal.TheVariants.{DayOutOfRange}
 use Rattle.books.specs.BookModels.{book_entries, book_storage}
 use Rattle.books.specs.Books.{booking_answer, after_booking}
-use Rattle.books.specs.OffPeak.{off_peak_day, off_peak_key, off_peak_answer, after_off_peak}
+use Rattle.books.specs.OffPeak.{off_peak_key, off_peak_answer, after_off_peak}
 use Rattle.books.proofs.OffPeakDays.{granted_day}
 use Rattle.books.proofs.off_peak.methods.book_off_peak.Goals as goal
 

@@ -1,4 +1,4 @@
-use Rattle.std.proofs.Common.{◌≡◌, sym, ap, ◌∙◌, inl}
+use Rattle.std.proofs.Common.{sym, ap, ◌∙◌, inl}
 use Rattle.calendar.specs.Gregorian.{month_refusal}
 use Rattle.calendar.proofs.Laws.{known, refused_early}
 use Rattle.calendar.proofs.month.Month.of_day.Goals as goal

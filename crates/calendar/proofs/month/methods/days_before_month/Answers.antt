@@ -1,4 +1,4 @@
-use Rattle.std.proofs.Common.{◌≡◌, ℕ, ◌+◌, ◌-◌, ◌≤◌, sym, ap, ◌∙◌, arith, rules}
+use Rattle.std.proofs.Common.{◌≡◌, ◌+◌, ◌-◌, ◌≤◌, ap, ◌∙◌, arith, rules}
 use Rattle.calendar.specs.Gregorian.{days_in_months, month_length}
 use Rattle.calendar.proofs.Years.{months_more}
 use Rattle.calendar.proofs.month.methods.days_before_month.Goals as goal

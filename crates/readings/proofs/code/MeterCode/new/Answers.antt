@@ -28,8 +28,8 @@ invariant_of-result c =
       short = omega arith;
       printable =
           code_like text _
-              (passed text (omega arith) (omega arith) c.if-not-is_printable.ensures)
-              (front text c.copy_from_slice.new.self _ c.copy_from_slice.ensures.after);
+          (passed text (omega arith) (omega arith) c.if-not-is_printable.ensures)
+          (front text c.copy_from_slice.new.self _ c.copy_from_slice.ensures.after);
     }
 
 pub returns : goal.returns
