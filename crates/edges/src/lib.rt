@@ -4,6 +4,8 @@
 #[cfg(test)]
 mod bill_tests;
 #[cfg(test)]
+mod books_tests;
+#[cfg(test)]
 mod calendar_tests;
 #[cfg(test)]
 mod job_tests;

@@ -2,7 +2,7 @@
 use calendar::{DayKind, Refusal, Season};
 use std::process::Abort;
 use std::test::Fail;
-use tariffs::{ByRank, Capacities, ContractTariff, H3, L2, Rank, S3, Tariff};
+use tariffs::{Capacities, H3, L2, Rank, S3, Tariff};
 
 // The last slot of a stretch, its rank, and the rank of the next slot.
 #[derive(Clone, Copy)]
@@ -117,31 +117,5 @@ fn capacities_are_granted_up_to_40_000(rt: HostRuntime) -> Result<(), Fail> {
         Some(Refusal::CapacityAboveLimit)
     );
     assert_eq!(rt; Capacities::new(1, 39_998, 0, 1)?.regular(), 1);
-    Ok(())
-}
-
-fn by_rank(peak: u32, semi_peak: u32, saturday: u32, off_peak: u32) -> ByRank {
-    ByRank {
-        peak,
-        semi_peak,
-        saturday,
-        off_peak,
-    }
-}
-
-#[test]
-fn capacities_allow_and_cost(rt: HostRuntime) -> Result<(), Fail> {
-    let stacked = Capacities::new(10, 10, 5, 5)?;
-    assert_eq!(rt;
-        L2.allowances(Season::Summer, stacked),
-        by_rank(10, 20, 25, 30)
-    );
-    assert_eq!(rt;
-        L2.allowances(Season::OtherMonths, stacked),
-        by_rank(20, 20, 25, 30)
-    );
-    let small = Capacities::new(10, 0, 10, 5)?;
-    assert_eq!(rt; L2.capacity_charge(Season::Summer, small), 1_133_600);
-    assert_eq!(rt; 4 * u64::from(L2.household_price()), 105_000);
     Ok(())
 }
