@@ -1,16 +1,31 @@
 -- Calls for demand response. Assumes nothing.
-use Rattle.std.specs.Prelude.{ℕ, ◌+◌, ◌*◌, Bool, cond, not, ◌&&◌, ◌||◌, List, Some, None, Option, ◌==◌, nat_le, nat_lt}
+use Rattle.std.specs.Prelude.{◌≡◌, ℕ, ◌+◌, ◌*◌, Bool, cond, not, ◌&&◌, ◌||◌, List, Some, None, Option, Result, ◌==◌, nat_le, nat_lt}
 use Rattle.books.specs.declared.call.Call.{Call}
 use Rattle.books.specs.declared.call.CallKind.{CallKind}
 use Rattle.books.specs.declared.call.CallKind.TheVariants.{Programme, Flexible}
 use Rattle.calendar.specs.declared.refusal.Refusal.{Refusal}
 use Rattle.calendar.specs.declared.refusal.Refusal.TheVariants.{DayOutOfRange, UnknownCallKind, CallHoursOutOfRange}
+use Rattle.calendar.specs.Judging.{Judged}
 use Rattle.books.specs.Books.{found}
 
 -- kind 1 is a call of the programme, kind 2 one of the flexible layer
 abbrev pub kind_number : CallKind → ℕ
 kind_number Programme = 1
 kind_number Flexible = 2
+
+-- the kind that a number says; other numbers say none
+abbrev pub kind_refusal : ℕ → Option Refusal
+kind_refusal number = cond (number == 1 || number == 2) None (Some UnknownCallKind)
+
+abbrev pub KindOf : ℕ → Result CallKind Refusal → Type 0
+KindOf number r = Judged r (kind_refusal number) (λ k. kind_number k ≡ number)
+
+-- the call on this day, of this kind, from this hour on for so many hours
+pub record IsCall (c : Call) (day kind start hours : ℕ) : Type 0 where
+  pub on : c.day ≡ day
+  pub of_kind : kind_number c.kind ≡ kind
+  pub from : c.start ≡ start
+  pub long : c.hours ≡ hours
 
 -- a call is refused for a day after the last of 2099, then for a kind other than 1 and 2, and then where it starts outside 4 to 22,
 -- lasts other than 2 to 6 hours or ends past 24

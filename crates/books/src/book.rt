@@ -1,7 +1,7 @@
 // The date book: dated entries in rising order of their keys, one entry a key, over lent storage.
 ghost use Rattle.std.specs.Prelude.{◌≡◌, ℕ, ◌+◌, ◌-◌, ◌<◌, ◌≤◌, false, [], ◌∷◌, ◌++◌, length, take, drop, is_ok};
 ghost use Rattle.books.specs.Books.{found, place_of, booking_answer, after_booking, Rising, MembersDetermine};
-ghost use Rattle.books.specs.BookModels.{book_entries, book_held, book_storage};
+ghost use Rattle.books.specs.BookModels.{KeepsStorage, book_entries, book_storage};
 
 use calendar::refusal::Refusal;
 
@@ -16,6 +16,7 @@ pub trait Entry: Copy {
 // The first of the places hold the entries, and the others what they held when they were lent.
 #[derive(Drop)]
 pub struct Book<'a, E> {
+    // The places are lent, and there may be more than entries: the library has no heap, so no map.
     places: &'a mut [E],
     count: usize,
 }
@@ -24,24 +25,14 @@ pub struct Book<'a, E> {
 pub(crate) fn find_among<E: Entry>(entries: &[E], key: u32) -> Option<E>
     ensures { result ≡ found E.Entry.keyed key entries.now }
 {
-    for entry in entries {
-        if entry.key() == key {
-            return Some(*entry);
-        }
-    }
-    None
+    entries.iter().find(|entry| entry.key() == key).copied()
 }
 
 // How many entries in front have smaller keys.
 fn place_among<E: Entry>(entries: &[E], key: u32) -> usize
     ensures { result ≡ place_of E.Entry.keyed key entries.now }
 {
-    for (at, entry) in entries.iter().enumerate() {
-        if entry.key() >= key {
-            return at;
-        }
-    }
-    entries.len()
+    entries.iter().take_while(|entry| entry.key() < key).count()
 }
 
 // Puts an entry at a place among the first `end`, and moves those behind it one place on.
@@ -70,7 +61,7 @@ impl<'a, E: Entry> Book<'a, E> {
         ensures determined { MembersDetermine E.Entry.keyed }
     {
         let held = self.count.min(self.places.len());
-        &self.places[0..held]
+        &self.places[..held]
     }
 
     // The entry with this key, if there is one.
@@ -98,10 +89,8 @@ impl<'a, E: Entry> Book<'a, E> {
         ensures answer { result ≡ booking_answer E.Entry.keyed (book_entries self.old) (length (book_storage self.old)) entry }
         ensures after { book_entries self.new ≡ after_booking E.Entry.keyed (book_entries self.old) (length (book_storage self.old)) entry }
         ensures rising { Rising E.Entry.keyed (book_entries self.old) → Rising E.Entry.keyed (book_entries self.new) }
-        ensures rest { drop (book_held self.new) (book_storage self.new) ≡ drop (book_held self.new) (book_storage self.old) }
+        ensures storage { KeepsStorage self.old self.new }
         ensures refused { is_ok result ≡ false → book_storage self.new ≡ book_storage self.old }
-        ensures room { length (book_storage self.new) ≡ length (book_storage self.old) }
-        ensures named { self.new.places.ghost_name ≡ self.old.places.ghost_name }
     {
         self.judge(entry)?;
         let end = self.entries().len();

@@ -8,8 +8,8 @@ pub use methods::call_on;
 // A call of the programme, or of the flexible layer over it.
 #[derive(Clone, Copy, PartialEq, Eq, Debug)]
 pub enum CallKind {
-    Programme,
-    Flexible,
+    Programme = 1,
+    Flexible = 2,
 }
 
 #[derive(Clone, Copy)]

@@ -42,7 +42,8 @@ fn days_of_year(leap_year: bool) -> u16
     if leap_year { 366 } else { 365 }
 }
 
-// The year that a day from 1 January 2000 on lies in, and the days of that year before it.
+// The year that a day from 1 January 2000 on lies in, and the days of that year before it. One function for years and for months, given what a
+// unit's length is, would be no plainer: it would take two types of number and a closure, and its clauses would speak of the closure's answers.
 fn year_of(day: u32) -> Option<(u16, u16)>
     ensures { MatchOption result (36524 < day) (λ p. InYear day p.0 p.1) }
 {
@@ -78,12 +79,8 @@ impl Date {
         ensures value { MatchOption result (36524 < day) (λ d. date_day d.year d.month d.day ≡ Some day) }
         ensures only { OneDate }
     {
-        let Some((year, before)) = year_of(day) else {
-            return None;
-        };
-        let Some((month, earlier)) = month_of_year(is_leap(year), before) else {
-            return None;
-        };
+        let (year, before) = year_of(day)?;
+        let (month, earlier) = month_of_year(is_leap(year), before)?;
         Some(Date {
             year,
             month,
@@ -97,12 +94,7 @@ impl Month {
     pub fn of_day(day: u32) -> Option<Month>
         ensures { MatchOption result ((day < 366) ⊎ (36524 < day)) (λ m. Within day m.year m.month) }
     {
-        let Some(date) = Date::of(day) else {
-            return None;
-        };
-        match Month::new(u32::from(date.year), u32::from(date.month)) {
-            Ok(month) => Some(month),
-            Err(_) => None,
-        }
+        let date = Date::of(day)?;
+        Month::new(u32::from(date.year), u32::from(date.month)).ok()
     }
 }

@@ -1,6 +1,7 @@
 // How a call is made, what it says, and which slots it covers.
-ghost use Rattle.std.specs.Prelude.{◌≡◌, Some, None, Ok, Err};
-ghost use Rattle.books.specs.Calls.{call_refusal, kind_number, call_key, first_slot, end_slot, covers, call_of_day};
+ghost use Rattle.std.specs.Prelude.{◌≡◌};
+ghost use Rattle.calendar.specs.Judging.{Judged};
+ghost use Rattle.books.specs.Calls.{IsCall, KindOf, call_refusal, kind_number, call_key, first_slot, end_slot, covers, call_of_day};
 
 use super::{Call, CallKind};
 use crate::book::{Entry, find_among};
@@ -15,9 +16,21 @@ impl CallKind {
     pub fn number(&self) -> u32
         ensures { result ≡ kind_number self.now }
     {
-        match self {
-            CallKind::Programme => 1,
-            CallKind::Flexible => 2,
+        *self as u32
+    }
+}
+
+// The kind of a number.
+impl TryFrom<u32> for CallKind {
+    type Error = Refusal;
+
+    ghost try_from_gives = { KindOf };
+
+    fn try_from(number: u32) -> Result<CallKind, Refusal> {
+        match number {
+            1 => Ok(CallKind::Programme),
+            2 => Ok(CallKind::Flexible),
+            _ => Err(Refusal::UnknownCallKind),
         }
     }
 }
@@ -25,16 +38,12 @@ impl CallKind {
 impl Call {
     // The call on this day, of this kind, from this hour on for so many hours.
     pub fn new(day: u32, kind: u32, start: u32, hours: u32) -> Result<Call, Refusal>
-        ensures { elim result [ Ok c ↦ (call_refusal day kind start hours ≡ None) × (c.day ≡ day) × (kind_number c.kind ≡ kind) × (c.start ≡ start) × (c.hours ≡ hours) | Err e ↦ call_refusal day kind start hours ≡ Some e ] }
+        ensures { Judged result (call_refusal day kind start hours) (λ c. IsCall c day kind start hours) }
     {
         if day > LAST_DAY {
             return Err(Refusal::DayOutOfRange);
         }
-        let kind = match kind {
-            1 => CallKind::Programme,
-            2 => CallKind::Flexible,
-            _ => return Err(Refusal::UnknownCallKind),
-        };
+        let kind = CallKind::try_from(kind)?;
         if start < 4 || start > 22 || hours < 2 || hours > 6 || start + hours > 24 {
             return Err(Refusal::CallHoursOutOfRange);
         }

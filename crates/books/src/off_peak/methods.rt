@@ -1,6 +1,7 @@
 // How an off-peak day is made, and whether a day is among those that are booked.
-ghost use Rattle.std.specs.Prelude.{◌≡◌, false, length, is_ok, Some, None, Ok, Err};
-ghost use Rattle.books.specs.BookModels.{book_entries, book_storage};
+ghost use Rattle.std.specs.Prelude.{◌≡◌, false, length, is_ok};
+ghost use Rattle.calendar.specs.Judging.{Judged};
+ghost use Rattle.books.specs.BookModels.{KeepsStorage, book_entries, book_storage};
 ghost use Rattle.books.specs.OffPeak.{off_peak_refusal, off_peak_key, off_peak_among, off_peak_answer, after_off_peak};
 
 use super::OffPeakDay;
@@ -11,7 +12,7 @@ use calendar::refusal::Refusal;
 impl OffPeakDay {
     // This day as an off-peak day.
     pub fn new(day: u32) -> Result<OffPeakDay, Refusal>
-        ensures { elim result [ Ok d ↦ (off_peak_refusal day ≡ None) × (d.day ≡ day) | Err e ↦ off_peak_refusal day ≡ Some e ] }
+        ensures { Judged result (off_peak_refusal day) (λ d. d.day ≡ day) }
     {
         if day > LAST_DAY {
             return Err(Refusal::DayOutOfRange);
@@ -55,8 +56,7 @@ pub fn book_off_peak(book: &mut Book<'_, OffPeakDay>, day: u32) -> Result<(), Re
     ensures answer { result ≡ off_peak_answer (book_entries book.old) (length (book_storage book.old)) day }
     ensures after { book_entries book.new ≡ after_off_peak (book_entries book.old) (length (book_storage book.old)) day }
     ensures refused { is_ok result ≡ false → book_storage book.new ≡ book_storage book.old }
-    ensures room { length (book_storage book.new) ≡ length (book_storage book.old) }
-    ensures named { book.new.places.ghost_name ≡ book.old.places.ghost_name }
+    ensures storage { KeepsStorage book.old book.new }
 {
     let entry = OffPeakDay::new(day)?;
     book.add(entry)

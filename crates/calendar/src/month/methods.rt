@@ -1,6 +1,7 @@
 // What a month answers: its first day, its length, its season.
-ghost use Rattle.std.specs.Prelude.{◌≡◌, ◌-◌, ◌^◌, ◌<◌, ◌≤◌, Some, None, Ok, Err};
+ghost use Rattle.std.specs.Prelude.{◌≡◌, ◌-◌, ◌^◌, ◌<◌, ◌≤◌};
 ghost use Rattle.calendar.specs.CalendarLaws.{Abuts};
+ghost use Rattle.calendar.specs.Judging.{Judged};
 ghost use Rattle.calendar.specs.Gregorian.{leap, month_length, days_in_years, days_in_months, first_day_of, length_of, season_of, month_refusal};
 
 use super::Month;
@@ -54,7 +55,7 @@ pub(crate) fn days_before_month(leap_year: bool, month: u8) -> u16
 impl Month {
     // The month with this number, 1 to 12, of this year.
     pub fn new(year: u32, month: u32) -> Result<Month, Refusal>
-        ensures { elim result [ Ok m ↦ (month_refusal year month ≡ None) × (m.year ≡ year) × (m.month ≡ month) | Err e ↦ month_refusal year month ≡ Some e ] }
+        ensures { Judged result (month_refusal year month) (λ m. (m.year ≡ year) × (m.month ≡ month)) }
     {
         if year < 2001 || year > 2099 {
             return Err(Refusal::YearOutOfRange);

@@ -1,18 +1,17 @@
-use Rattle.std.proofs.Common.{sym, ◌∙◌}
-use Rattle.books.proofs.Books.{found_here, found_further, found_nowhere}
+use Rattle.std.proofs.Common.{◌≡◌, Some, None, Option, Bor, refl, ◌∙◌, rules, eqb}
+use Rattle.std.proofs.lemmas.Iterator.{YieldsList-from_slice}
+use Rattle.std.proofs.lemmas.Iterator.Search.{find_from_yields_List}
+use Rattle.std.specs.Option.{option_copied, option_map}
+use borrow.Author.Tests.{tests}
 use Rattle.books.proofs.book.find_among.Goals as goal
 
-pub returns-then-key : goal.returns-then-key
-returns-then-key g c =
-    sym (found_here g.E.Entry.keyed c.args.entries.now c.args.key c.loop-entry.entry-index c.entry-item.result c.loop-entry-test.true c.entry-item.is (sym c.key.ensures ∙ c.if-key.true))
-    ∙ c.loop-entry.invariant
-
-pub loop-entry-preserved : goal.loop-entry-preserved
-loop-entry-preserved g c =
-    found_further g.E.Entry.keyed c.args.entries.now c.args.key c.loop-entry.entry-index c.entry-item.result c.loop-entry-test.true c.entry-item.is (λ same. c.if-key.false (c.key.ensures ∙ same))
-    ∙ c.loop-entry.invariant
+-- a copied reference is what it points to
+copied : {E : Type 0} (o : Option (Bor E)) → option_copied o ≡ option_map (λ b. b.now) o
+copied None = refl
+copied (Some b) = refl
 
 pub returns : goal.returns
 returns g c =
-    sym (found_nowhere g.E.Entry.keyed c.args.entries.now c.args.key c.loop-entry.entry-index c.loop-entry-test.false)
-    ∙ c.loop-entry.invariant
+    c.copied.ensures
+    ∙ copied c.find.result
+    ∙ find_from_yields_List (λ e. eqb (g.E.Entry.keyed e) c.args.key) _ _ _ c.find.ensures.ran (YieldsList-from_slice c.args.entries.now cc) (λ x b q k. search (rules, tests))

@@ -29,8 +29,6 @@ returns g c =
       answer = sym granted;
       after = all.entries;
       rising = all.rises;
-      rest = all.rest;
+      storage = record { behind = all.rest; room = all.long; same_loan = search rules };
       refused = search rules;
-      room = all.long;
-      named = search rules;
     }

@@ -28,6 +28,5 @@ returns c =
       answer = c.add.ensures.answer ∙ answered es places c.args.day c.in_ok-entry.entry is;
       after = c.add.ensures.after ∙ left es places c.args.day c.in_ok-entry.entry is;
       refused = c.add.ensures.refused;
-      room = c.add.ensures.room;
-      named = c.add.ensures.named;
+      storage = c.add.ensures.storage;
     }

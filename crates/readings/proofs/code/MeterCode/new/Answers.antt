@@ -1,4 +1,4 @@
-use Rattle.std.proofs.Common.{◌≡◌, ℕ, ◌≤◌, true, T, List, ◌++◌, length, take, None, sym, ap, ◌∙◌, subst, arith}
+use Rattle.std.proofs.Common.{◌≡◌, ℕ, ◌≤◌, true, List, ◌++◌, length, take, None, ap, ◌∙◌, arith}
 use Rattle.std.proofs.lemmas.List.{take_at}
 use Rattle.std.proofs.lemmas.Bool.Decides.{nat_tests}
 use Rattle.readings.specs.Codes.{printable, is_code, code_refusal}
@@ -13,10 +13,8 @@ passed : (text : List ℕ) → 1 ≤ length text → length text ≤ 24 → true
 passed text from to each = grind (arith, nat_tests)
 
 -- and so is an equal list
-code_like : (text other : List ℕ) → is_code text ≡ true → other ≡ text → T (is_code other)
-code_like text other e same =
-    let P : List ℕ → Type 0 = λ bs. T (is_code bs) in
-    subst P (sym same) (subst T (sym e) tt)
+code_like : (text other : List ℕ) → is_code text ≡ true → other ≡ text → is_code other ≡ true
+code_like text other e same = ap is_code same ∙ e
 
 granted : (text : List ℕ) → is_code text ≡ true → code_refusal text ≡ None
 granted text e = simp e
