@@ -7,3 +7,4 @@ pub mod Meaning
 pub mod Prices
 pub mod Ranks
 pub mod S3
+pub mod SeasonTables

@@ -1,11 +1,11 @@
 // What a contract tariff answers beyond a tariff. As with a tariff, code above it rests on the laws of its meaning alone.
 ghost use Rattle.std.specs.Prelude.{◌≡◌};
-ghost use Rattle.tariffs.specs.Contract.{ContractMeaning, ContractLaws, saturday_rank};
+ghost use Rattle.tariffs.specs.Contract.{ContractMeaning, ContractLaws, rank_of_kind, saturday_rank};
 
 use crate::capacities::Capacities;
 use crate::rank::{ByRank, Rank};
 use crate::tariff::Tariff;
-use calendar::Season;
+use calendar::{DayKind, Season};
 
 pub trait ContractTariff: Tariff {
     ghost contract: { Self → ContractMeaning };
@@ -26,11 +26,22 @@ pub trait ContractTariff: Tariff {
 }
 
 // The rank of a slot of a Saturday, the same in every contract tariff.
-pub(crate) fn saturday_rank(slot: usize) -> Rank
+fn saturday_rank(slot: usize) -> Rank
     ensures { result ≡ saturday_rank slot }
 {
     match slot {
         30..=89 => Rank::SaturdaySemiPeak,
+        _ => Rank::OffPeak,
+    }
+}
+
+// The rank of a slot of a day in a contract tariff, given its rank on a working day.
+pub(crate) fn contract_rank(working: Rank, kind: DayKind, slot: usize) -> Rank
+    ensures { result ≡ rank_of_kind working kind slot }
+{
+    match kind {
+        DayKind::Working => working,
+        DayKind::Saturday => saturday_rank(slot),
         _ => Rank::OffPeak,
     }
 }

@@ -9,6 +9,7 @@ pub mod l2;
 mod prices;
 pub mod rank;
 pub mod s3;
+mod season_table;
 pub mod tariff;
 
 pub use capacities::Capacities;

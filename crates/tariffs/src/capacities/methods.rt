@@ -1,6 +1,7 @@
 // How capacities are made, and what they say.
-ghost use Rattle.std.specs.Prelude.{◌≡◌, ◌+◌, ◌-◌, ◌*◌, Some, None, Ok, Err};
-ghost use Rattle.tariffs.specs.Capacities.{capacities_refusal, stacked, beyond_half};
+ghost use Rattle.std.specs.Prelude.{◌≡◌};
+ghost use Rattle.calendar.specs.Judging.{Judged};
+ghost use Rattle.tariffs.specs.Capacities.{AreCapacities, capacities_refusal, stacked, beyond_half};
 
 use super::Capacities;
 use crate::rank::ByRank;
@@ -17,7 +18,7 @@ impl Capacities {
         saturday: u32,
         off_peak: u32,
     ) -> Result<Capacities, Refusal>
-        ensures { elim result [ Ok c ↦ (capacities_refusal regular semi_peak saturday off_peak ≡ None) × (c.regular ≡ regular) × (c.semi_peak ≡ semi_peak) × (c.saturday ≡ saturday) × (c.off_peak ≡ off_peak) | Err e ↦ capacities_refusal regular semi_peak saturday off_peak ≡ Some e ] }
+        ensures { Judged result (capacities_refusal regular semi_peak saturday off_peak) (λ c. AreCapacities c regular semi_peak saturday off_peak) }
     {
         if regular == 0 {
             return Err(Refusal::NoRegularCapacity);
