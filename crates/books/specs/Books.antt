@@ -1,12 +1,13 @@
 -- What a date book holds and what a booking does, for every kind of entry with a key. Assumes nothing.
-use Rattle.std.specs.Prelude.{◌≡◌, ℕ, ◌<◌, cond, ◌⊎◌, List, [], ◌∷◌, ◌++◌, length, take, drop, find, is_some, is_ok, Ok, Err, Option, Result, ◌==◌, nat_le, nat_lt}
+use Rattle.std.specs.Prelude.{◌≡◌, ℕ, ◌<◌, cond, ◌⊎◌, List, [], ◌∷◌, ◌++◌, length, take, drop, is_some, is_ok, Some, None, Ok, Err, Option, Result, ◌==◌, nat_le, nat_lt}
 use Rattle.std.specs.List.{prefix_len}
 use Rattle.calendar.specs.declared.refusal.Refusal.{Refusal}
 use Rattle.calendar.specs.declared.refusal.Refusal.TheVariants.{KeyAlreadyBooked, BookFull}
 
 -- the entry with this key, if there is one
 abbrev pub found : {E : Type 0} → (E → ℕ) → ℕ → List E → Option E
-found key k es = find (λ e. key e == k) es
+found key k [] = None
+found key k (e ∷ es) = cond (key e == k) (Some e) (found key k es)
 
 -- how many entries in front have keys smaller than this one
 abbrev pub place_of : {E : Type 0} → (E → ℕ) → ℕ → List E → ℕ
