@@ -1,31 +1,53 @@
--- A text cut at a byte, step by step. Assumes nothing.
-use Rattle.std.proofs.Common.{◌≡◌, ℕ, ◌+◌, ◌<◌, ◌≤◌, cond, eqb, List, [], ◌∷◌, ◌++◌, length, get_or, take, drop, Some, None, Option, sym, refl, ap, ◌∙◌, append_assoc, append-nil}
-use Rattle.std.proofs.lemmas.List.{at_drop_more, at_drop_all, take_more}
-use Rattle.std.proofs.lemmas.Bool.{eq-eqb, ne_eqb, cond-true, cond-false}
+-- A text cut at a byte is cut at the first place where the byte stands. Assumes nothing.
+use Rattle.std.proofs.Common.{◌≡◌, ℕ, suc, ◌+◌, Bool, true, false, cond, not, eqb, ltb, List, [], ◌∷◌, length, take, drop, Some, None, Option, sym, refl, ap, ◌∙◌, arith}
+use Rattle.std.proofs.Math.Numerals.{one-add, add-one}
+use Rattle.std.proofs.lemmas.Bool.Decides.{nat_tests}
+use Rattle.std.specs.List.{position_or_len}
 use Rattle.job.specs.Texts.{Parts, cut_at, behind}
 
--- bytes in front of bytes in front
-pub behind_behind : (p q : List ℕ) (o : Option Parts) → behind p (behind q o) ≡ behind (p ++ q) o
-behind_behind p q None = refl
-behind_behind p q (Some x) = ap (λ (l : List ℕ). Some (l, x.1)) (sym (append_assoc p q x.0))
+-- a text parted around a place, where the place is the text's
+abbrev parted : Bool → ℕ → List ℕ → Option Parts
+parted within n xs = cond within (Some (take n xs, drop (n + 1) xs)) None
 
--- the byte at an index, and what stands behind it
-step : (at : ℕ) (xs : List ℕ) (i : ℕ) → i < length xs → cut_at at (drop i xs) ≡ cond (eqb (get_or xs i 0) at) (Some ([], drop (i + 1) xs)) (behind (get_or xs i 0 ∷ []) (cut_at at (drop (i + 1) xs)))
-step at xs i h = at_drop_more (cut_at at) xs i 0 h
+further : (b n : ℕ) (bs : List ℕ) (within : Bool) → parted within (1 + n) (b ∷ bs) ≡ behind (b ∷ []) (parted within n bs)
+further b n bs true =
+    ap (λ (m : ℕ). parted true m (b ∷ bs)) (one-add n)
+    ∙ (ap (λ (m : ℕ). Some (b ∷ take n bs, drop m (b ∷ bs))) (add-one (suc n)) ∙ ap (λ (m : ℕ). Some (b ∷ take n bs, drop m bs)) (sym (add-one n)))
+further b n bs false = refl
 
--- the byte is there
-pub cut_here : (at : ℕ) (xs : List ℕ) (i : ℕ) → i < length xs → get_or xs i 0 ≡ at → behind (take i xs) (cut_at at (drop i xs)) ≡ cut_at at xs → Some (take i xs, drop (i + 1) xs) ≡ cut_at at xs
-cut_here at xs i h e inv =
-    ap (λ (l : List ℕ). Some (l, drop (i + 1) xs)) (sym (append-nil (take i xs)))
-    ∙ (ap (behind (take i xs)) (sym (cond-true _ _ _ (eq-eqb _ _ e)) ∙ sym (step at xs i h)) ∙ inv)
+step : (at b n : ℕ) (bs : List ℕ) (t : Bool) → parted (ltb n (length bs)) n bs ≡ cut_at at bs → (let m = cond (not t) (1 + n) 0 in parted (ltb m (length (b ∷ bs))) m (b ∷ bs)) ≡ cond t (Some ([], bs)) (behind (b ∷ []) (cut_at at bs))
+step at b n bs true e = let h : ltb 0 (length (b ∷ bs)) ≡ true = grind (arith, nat_tests) in ap (λ t. parted t 0 (b ∷ bs)) h
+step at b n bs false e =
+    let h : ltb (1 + n) (length (b ∷ bs)) ≡ ltb n (length bs) = grind (arith, nat_tests) in
+    ap (λ t. parted t (1 + n) (b ∷ bs)) h ∙ (further b n bs (ltb n (length bs)) ∙ ap (behind (b ∷ [])) e)
 
--- it stands further on, if at all
-pub cut_on : (at : ℕ) (xs : List ℕ) (i : ℕ) → i < length xs → (get_or xs i 0 ≡ at → ⊥) → behind (take i xs) (cut_at at (drop i xs)) ≡ cut_at at xs → behind (take (i + 1) xs) (cut_at at (drop (i + 1) xs)) ≡ cut_at at xs
-cut_on at xs i h ne inv =
-    ap (λ l. behind l (cut_at at (drop (i + 1) xs))) (take_more xs i 0 h)
-    ∙ (sym (behind_behind (take i xs) (get_or xs i 0 ∷ []) (cut_at at (drop (i + 1) xs)))
-    ∙ (ap (behind (take i xs)) (sym (cond-false _ _ _ (ne_eqb _ _ ne)) ∙ sym (step at xs i h)) ∙ inv))
+-- the first place where the byte stands, or the text's length
+abbrev place : ℕ → List ℕ → ℕ
+place at xs = position_or_len (λ b. eqb b at) xs
 
--- it is nowhere
-pub cut_nowhere : (at : ℕ) (xs : List ℕ) (i : ℕ) → length xs ≤ i → behind (take i xs) (cut_at at (drop i xs)) ≡ cut_at at xs → None ≡ cut_at at xs
-cut_nowhere at xs i h inv = ap (behind (take i xs)) (sym (at_drop_all (cut_at at) xs i h)) ∙ inv
+cut_parted : (at : ℕ) (xs : List ℕ) → parted (ltb (place at xs) (length xs)) (place at xs) xs ≡ cut_at at xs
+cut_parted at [] = refl
+cut_parted at (b ∷ bs) = step at b (place at bs) bs (eqb b at) (cut_parted at bs)
+
+module _ (at : ℕ) (xs : List ℕ) where
+  -- what a search for the byte answers
+  abbrev pub searched : Option ℕ
+  searched = cond (ltb (place at xs) (length xs)) (Some (place at xs)) None
+
+  abbrev cut : Option ℕ → Option Parts
+  cut None = None
+  cut (Some n) = Some (take n xs, drop (n + 1) xs)
+
+  as_parted : (n : ℕ) (t : Bool) → cut (cond t (Some n) None) ≡ parted t n xs
+  as_parted n true = refl
+  as_parted n false = refl
+
+  cut_searched : (r : Option ℕ) → r ≡ searched → cut r ≡ cut_at at xs
+  cut_searched r e = ap cut e ∙ (as_parted (place at xs) (ltb (place at xs) (length xs)) ∙ cut_parted at xs)
+
+  -- it stands there, or nowhere
+  pub cut_here : (n : ℕ) → Some n ≡ searched → Some (take n xs, drop (n + 1) xs) ≡ cut_at at xs
+  cut_here n e = cut_searched (Some n) e
+
+  pub cut_nowhere : None ≡ searched → None ≡ cut_at at xs
+  cut_nowhere e = cut_searched None e

@@ -5,7 +5,7 @@ ghost use Rattle.job.specs.Lines.{line_of, four_of};
 ghost use Rattle.job.specs.LineParts.{line_parts, four_parts};
 
 use crate::keys;
-use crate::text::{cut, is};
+use crate::text::cut;
 
 #[derive(Clone, Copy)]
 pub enum Line<'a> {
@@ -40,15 +40,9 @@ impl<'a> Four<'a> {
     pub fn read(value: &'a [u8]) -> Option<Four<'a>>
         ensures { option_map four_parts result ≡ four_of value.now }
     {
-        let Some((first, more)) = cut(value, b',') else {
-            return None;
-        };
-        let Some((second, rest)) = cut(more, b',') else {
-            return None;
-        };
-        let Some((third, fourth)) = cut(rest, b',') else {
-            return None;
-        };
+        let (first, more) = cut(value, b',')?;
+        let (second, rest) = cut(more, b',')?;
+        let (third, fourth) = cut(rest, b',')?;
         Some(Four {
             first,
             second,
@@ -66,13 +60,13 @@ impl<'a> Line<'a> {
         let Some((key, value)) = cut(bytes, b'=') else {
             return Line::Malformed(bytes);
         };
-        if is(key, keys::RUN) {
+        if key == keys::RUN {
             let Some((count, demand)) = cut(value, b',') else {
                 return Line::Malformed(bytes);
             };
             return Line::Run { count, demand };
         }
-        if is(key, keys::CALL) {
+        if key == keys::CALL {
             let Some(four) = Four::read(value) else {
                 return Line::Malformed(bytes);
             };

@@ -71,7 +71,7 @@ returns-in-Err-body c =
     let number = c.in_ok-year.number in
     let begun = sheet_model c.open-sheet.result in
     let same : begun ≡ opened bytes year number room =
-    opened_so begun _ bytes _ year _ number room c.open-sheet.ensures.model c.in-Ok.ensures.1 c.in-Ok-new.ensures.1 c.in-Ok-new.ensures.2 in
+    opened_so begun _ bytes _ year _ number room c.open-sheet.ensures.model c.in-Ok.ensures.1 c.in-Ok-new.ensures.1.0 c.in-Ok-new.ensures.1.1 in
     let e =
     body_decides c.args.text.now room (length (book_storage c.open-off_peak.result)) bytes year number (said c.in_ok-year.rest.now) (said c.in_ok-rest.rest.now) begun (book_entries c.open-off_peak.result)
     (job_runs c.args.text.now room bytes (said c.in_ok-bytes.rest.now) year number (said c.in_ok-year.rest.now)
@@ -106,7 +106,7 @@ returns c =
     let number = c.in_ok-year.number in
     let begun = sheet_model c.open-sheet.result in
     let same : begun ≡ opened bytes year number room =
-    opened_so begun _ bytes _ year _ number room c.open-sheet.ensures.model c.in-Ok.ensures.1 c.in-Ok-new.ensures.1 c.in-Ok-new.ensures.2 in
+    opened_so begun _ bytes _ year _ number room c.open-sheet.ensures.model c.in-Ok.ensures.1 c.in-Ok-new.ensures.1.0 c.in-Ok-new.ensures.1.1 in
     let e =
     body_decides c.args.text.now room (length (book_storage c.open-off_peak.result)) bytes year number (said c.in_ok-year.rest.now) (said c.in_ok-rest.rest.now) begun (book_entries c.open-off_peak.result)
     (job_runs c.args.text.now room bytes (said c.in_ok-bytes.rest.now) year number (said c.in_ok-year.rest.now)

@@ -41,23 +41,24 @@ some_bytes xs e = omega (arith, eqb-false (length xs) 0 (sym e))
 room : (n d i b : ℕ) → n < 10 ^ i → i < 8 → Some d ≡ digit_of b → (n < 10 ^ 7) × (d < 10)
 room n d i b h k e = (few n i h k, a_digit b d (sym e))
 
-pub returns-in_default : goal.returns-in_default
-returns-in_default c =
+pub returns-in_err-d : goal.returns-in_err-d
+returns-in_err-d c =
     let xs = c.args.digits.now in
-    sym (sized xs (some_bytes xs c.if-is_empty.ensures) (omega arith)
-    ∙ (sym c.loop-b.invariant.0 ∙ unread c.loop-b.n xs c.loop-b.b-index (omega arith) (sym c.in_default.ensures)))
+    c.from_residual.ensures
+    ∙ sym (sized xs (some_bytes xs c.if-is_empty.ensures) (omega arith)
+    ∙ (sym c.loop-b.invariant.0 ∙ unread c.loop-b.n xs c.loop-b.b-index (omega arith) (sym c.in_err-d.ensures)))
 
 pub overflow_mul-n : goal.overflow_mul-n
-overflow_mul-n c = omega (arith, room c.loop-b.n c.in-Some.d c.loop-b.b-index (get_or c.args.digits.now c.loop-b.b-index 0) c.loop-b.invariant.1 (omega arith) c.in-Some.ensures)
+overflow_mul-n c = omega (arith, room c.loop-b.n c.in_ok-d.d c.loop-b.b-index (get_or c.args.digits.now c.loop-b.b-index 0) c.loop-b.invariant.1 (omega arith) c.in_ok-d.ensures)
 
 pub overflow_add-n : goal.overflow_add-n
-overflow_add-n c = omega (arith, room c.loop-b.n c.in-Some.d c.loop-b.b-index (get_or c.args.digits.now c.loop-b.b-index 0) c.loop-b.invariant.1 (omega arith) c.in-Some.ensures)
+overflow_add-n c = omega (arith, room c.loop-b.n c.in_ok-d.d c.loop-b.b-index (get_or c.args.digits.now c.loop-b.b-index 0) c.loop-b.invariant.1 (omega arith) c.in_ok-d.ensures)
 
 pub loop-b-preserved : goal.loop-b-preserved
 loop-b-preserved c =
     let xs = c.args.digits.now in (
-      sym (read c.loop-b.n xs c.loop-b.b-index c.in-Some.d (omega arith) (sym c.in-Some.ensures)) ∙ c.loop-b.invariant.0,
-      longer c.loop-b.n c.in-Some.d c.loop-b.b-index c.loop-b.invariant.1 (a_digit (get_or xs c.loop-b.b-index 0) _ (sym c.in-Some.ensures)),
+      sym (read c.loop-b.n xs c.loop-b.b-index c.in_ok-d.d (omega arith) (sym c.in_ok-d.ensures)) ∙ c.loop-b.invariant.0,
+      longer c.loop-b.n c.in_ok-d.d c.loop-b.b-index c.loop-b.invariant.1 (a_digit (get_or xs c.loop-b.b-index 0) _ (sym c.in_ok-d.ensures)),
     )
 
 pub returns : goal.returns
