@@ -55,15 +55,19 @@ call_said date kind start hours =
 abbrev pub run_said : List ℕ → List ℕ → Option Says
 run_said count demand = elim (both (number_of count) (number_of demand)) [ None ↦ None | Some p ↦ Some (run_of p.0 p.1) ]
 
+-- a line of the contract: its capacities, its programme, or whether it is under the flexible layer
+abbrev pub contract_said : List ℕ → List ℕ → Option Says
+contract_said key value =
+    cond (bytes_eq key (codes "caps")) (capacities_said value)
+    (cond (bytes_eq key (codes "programme")) (elim (programme_of value) [ None ↦ None | Some p ↦ Some (programme p) ])
+    (cond (bytes_eq key (codes "flex")) (elim (flexible_of value) [ None ↦ None | Some b ↦ Some (flexible b) ]) None))
+
 -- a line of the six that a job begins with
 abbrev pub header_said : List ℕ → List ℕ → Option Says
 header_said key value =
     cond (bytes_eq key (codes "code")) (Some (code value))
     (cond (bytes_eq key (codes "month")) (elim (month_of value) [ None ↦ None | Some p ↦ Some (month p.0 p.1) ])
-    (cond (bytes_eq key (codes "tariff")) (elim (tariff_of value) [ None ↦ None | Some t ↦ Some (tariff t) ])
-    (cond (bytes_eq key (codes "caps")) (capacities_said value)
-    (cond (bytes_eq key (codes "programme")) (elim (programme_of value) [ None ↦ None | Some p ↦ Some (programme p) ])
-    (cond (bytes_eq key (codes "flex")) (elim (flexible_of value) [ None ↦ None | Some b ↦ Some (flexible b) ]) None)))))
+    (cond (bytes_eq key (codes "tariff")) (elim (tariff_of value) [ None ↦ None | Some t ↦ Some (tariff t) ]) (contract_said key value)))
 
 -- a line of a key and a value
 abbrev pub keyed_said : List ℕ → List ℕ → Option Says

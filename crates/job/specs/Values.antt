@@ -54,14 +54,17 @@ tariff_of bs =
 abbrev pub pair_of : List ℕ → Option (ℕ × ℕ)
 pair_of bs = elim (cut_at 44 bs) [ None ↦ None | Some p ↦ both (number_of p.0) (number_of p.1) ]
 
--- a programme is none, or a bid with its contract reduction and its price
-abbrev pub programme_of : List ℕ → Option ProgrammeName
-programme_of bs =
-    cond (bytes_eq bs (codes "none")) (Some no_programme)
-    (elim (cut_at 44 bs) [
+-- a bid says its contract reduction and its price
+abbrev pub bid_of : List ℕ → Option ProgrammeName
+bid_of bs =
+    elim (cut_at 44 bs) [
       | None ↦ None
       | Some p ↦ cond (bytes_eq p.0 (codes "bid")) (elim (pair_of p.1) [ None ↦ None | Some q ↦ Some (Bid q.0 q.1) ]) None
-    ])
+    ]
+
+-- a programme is none or a bid
+abbrev pub programme_of : List ℕ → Option ProgrammeName
+programme_of bs = cond (bytes_eq bs (codes "none")) (Some no_programme) (bid_of bs)
 
 -- a flag is one byte, 0 or 1
 abbrev pub flexible_of : List ℕ → Option Bool

@@ -23,6 +23,7 @@ pub enum Line<'a> {
         start: &'a [u8],
         hours: &'a [u8],
     },
+    // A line that is not of the form is a case among these: the reader's lines are parts of the text, whatever they hold.
     Malformed(&'a [u8]),
 }
 
@@ -60,23 +61,21 @@ impl<'a> Line<'a> {
         let Some((key, value)) = cut(bytes, b'=') else {
             return Line::Malformed(bytes);
         };
-        if key == keys::RUN {
-            let Some((count, demand)) = cut(value, b',') else {
-                return Line::Malformed(bytes);
-            };
-            return Line::Run { count, demand };
+        match key {
+            keys::RUN => match cut(value, b',') {
+                Some((count, demand)) => Line::Run { count, demand },
+                None => Line::Malformed(bytes),
+            },
+            keys::CALL => match Four::read(value) {
+                Some(four) => Line::Call {
+                    date: four.first,
+                    kind: four.second,
+                    start: four.third,
+                    hours: four.fourth,
+                },
+                None => Line::Malformed(bytes),
+            },
+            _ => Line::Keyed { key, value },
         }
-        if key == keys::CALL {
-            let Some(four) = Four::read(value) else {
-                return Line::Malformed(bytes);
-            };
-            return Line::Call {
-                date: four.first,
-                kind: four.second,
-                start: four.third,
-                hours: four.fourth,
-            };
-        }
-        Line::Keyed { key, value }
     }
 }
