@@ -65,10 +65,9 @@ fn a_short_buffer_gives_the_bill_back(rt: HostRuntime) -> Result<(), Fail> {
     let Err(unprinted) = bill(7)?.print(&mut buffer) else {
         return Err(Fail::new("printed"));
     };
-    let (back, refusal) = unprinted;
-    assert_eq!(rt; refusal, Refusal::PrintBufferTooShort);
-    assert_eq!(rt; back.serial(), 1);
-    assert_eq!(rt; back.items().due, 7);
+    assert_eq!(rt; unprinted.refusal, Refusal::PrintBufferTooShort);
+    assert_eq!(rt; unprinted.bill.serial(), 1);
+    assert_eq!(rt; unprinted.bill.items().due, 7);
     assert!(rt; buffer == [b'.'; 511]);
     Ok(())
 }
