@@ -2,5 +2,4 @@ pub mod Full
 pub mod Gathered
 pub mod LargestExcess
 pub mod Lengths
-pub mod Lines
 pub mod Writing

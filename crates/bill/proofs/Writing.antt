@@ -1,11 +1,9 @@
 -- One write after another into a buffer. Assumes nothing.
-use Rattle.std.proofs.Common.{◌≡◌, ℕ, ◌+◌, ◌-◌, ◌<◌, ◌≤◌, List, [], ◌∷◌, ◌++◌, length, take, drop, set, ℤ, pos, negsuc, nat_abs, ◌<ℤ◌, decimal, sym, refl, ap, ◌∙◌, subst, add-one, arith}
-use borrow.Rule.Slice.PartMut.{put_mid}
+use Rattle.std.proofs.Common.{◌≡◌, ℕ, ◌+◌, ◌≤◌, List, [], ◌∷◌, ◌++◌, length, take, drop, ℤ, pos, negsuc, nat_abs, ◌<ℤ◌, decimal, sym, refl, ap, ◌∙◌, subst, add-zero, arith}
 use lib.Seq.{paste}
 use Rattle.std.specs.Fmt.{signed_decimal}
 use Rattle.std.proofs.lemmas.List.Edits.{paste_all, paste-paste}
-use Rattle.std.proofs.lemmas.List.{length-append, set_split}
-use Rattle.std.proofs.lemmas.Slice.{put_mid-paste}
+use Rattle.std.proofs.lemmas.List.{length-append, length-drop, length-take-le, take-append-drop}
 use Rattle.std.proofs.lemmas.Int.{ints}
 use Rattle.bill.specs.PrintWrote.{Room, Wrote}
 
@@ -13,9 +11,17 @@ use Rattle.bill.specs.PrintWrote.{Room, Wrote}
 pub room_first : {xs : List ℕ} {a : ℕ} (bs cs : List ℕ) → Room xs a (bs ++ cs) → Room xs a bs
 room_first {xs} {a} bs cs h = record { fits = omega (arith, length-append bs cs, h.fits) }
 
+-- a write leaves the buffer as long as it was
+wrote_length : {xs bs ys : List ℕ} {a r : ℕ} → Room xs a bs → Wrote xs a bs r ys → length ys ≡ length xs
+wrote_length {xs} {bs} {ys} {a} {r} h w =
+    let front = length-take-le a xs (omega (arith, h.fits)) in
+    let whole = ap length w.holds ∙ length-append (take a xs) (bs ++ drop (a + length bs) xs) in
+    omega (arith, whole, front, length-append bs (drop (a + length bs) xs), length-drop (a + length bs) xs, h.fits)
+
 -- and so has the other, behind it
-pub room_then : {xs ys : List ℕ} {a r : ℕ} (bs cs : List ℕ) → Room xs a (bs ++ cs) → length ys ≡ length xs → Wrote xs a bs r ys → Room ys r cs
-room_then {xs} {ys} {a} {r} bs cs h e w = record { fits = omega (arith, length-append bs cs, h.fits, w.stops) }
+pub room_then : {xs ys : List ℕ} {a r : ℕ} (bs cs : List ℕ) → Room xs a (bs ++ cs) → Wrote xs a bs r ys → Room ys r cs
+room_then {xs} {ys} {a} {r} bs cs h w =
+    record { fits = omega (arith, wrote_length (room_first bs cs h) w, length-append bs cs, h.fits, w.stops) }
 
 -- two writes, one right behind the other, are one
 pub then_wrote : {xs ys zs bs cs : List ℕ} {a r s : ℕ} → Room xs a (bs ++ cs) → Wrote xs a bs r ys → Wrote ys r cs s zs → Wrote xs a (bs ++ cs) s zs
@@ -34,16 +40,10 @@ then_wrote {xs} {ys} {zs} {bs} {cs} {a} {r} {s} h v w =
       holds = second ∙ (moved ∙ (joined ∙ (all ∙ ap (λ (k : ℕ). take a xs ++ ((bs ++ cs) ++ drop (a + k) xs)) whole)));
     }
 
--- one byte written over another
-pub wrote_byte : (xs : List ℕ) (a b : ℕ) → a < length xs → Wrote xs a (b ∷ []) (a + 1) (set xs a b)
-wrote_byte xs a b h =
-    record { stops = refl; holds = set_split xs a b h ∙ ap (λ (k : ℕ). take a xs ++ (b ∷ drop k xs)) (sym (add-one a)) }
-
--- bytes copied over a part
-pub wrote_part : (xs : List ℕ) (a e : ℕ) (bs cs : List ℕ) → e ≡ a + length cs → bs ≡ cs → Wrote xs a cs e (put_mid a (e - a) xs bs)
-wrote_part xs a e bs cs stop same =
-    let size : length cs ≡ e - a = omega (arith, stop) in
-    record { stops = stop; holds = put_mid-paste a (e - a) xs bs cs (length cs) same size refl ∙ paste_all xs a cs (length cs) refl }
+-- where nothing is written, nothing changes
+pub wrote_nothing : (xs : List ℕ) (a : ℕ) → Wrote xs a [] a xs
+wrote_nothing xs a =
+    record { stops = sym (add-zero a); holds = sym (take-append-drop a xs) ∙ ap (λ (k : ℕ). take a xs ++ drop k xs) (sym (add-zero a)) }
 
 -- the same bytes under another name
 pub room_as : {xs bs cs : List ℕ} {a : ℕ} → bs ≡ cs → Room xs a bs → Room xs a cs
@@ -52,7 +52,16 @@ room_as {xs} {bs} {cs} {a} e h = subst (λ (l : List ℕ). Room xs a l) e h
 pub wrote_as : {xs bs cs ys : List ℕ} {a r : ℕ} → bs ≡ cs → Wrote xs a bs r ys → Wrote xs a cs r ys
 wrote_as {xs} {bs} {cs} {ys} {a} {r} e w = subst (λ (l : List ℕ). Wrote xs a l r ys) e w
 
+-- the same place and the same buffer under other names
+pub wrote_left : {xs bs ys zs : List ℕ} {a r s : ℕ} → s ≡ r → zs ≡ ys → Wrote xs a bs r ys → Wrote xs a bs s zs
+wrote_left e f w = record { stops = e ∙ w.stops; holds = f ∙ w.holds }
+
 -- a negative number is its digits, with a minus sign in front
 pub signed_below : (z : ℤ) (n : ℕ) → z <ℤ pos 0 → n ≡ nat_abs z → (45 ∷ decimal n) ≡ signed_decimal z
 signed_below (pos k) n h e = absurd (omega (arith, ints, h))
 signed_below (negsuc k) n h e = ap (λ (m : ℕ). 45 ∷ decimal m) e
+
+-- and another is its digits
+pub signed_from_zero : (z : ℤ) (n : ℕ) → ¬ (z <ℤ pos 0) → n ≡ nat_abs z → decimal n ≡ signed_decimal z
+signed_from_zero (pos k) n h e = ap decimal e
+signed_from_zero (negsuc k) n h e = absurd (h (omega (arith, ints)))

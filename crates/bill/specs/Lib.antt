@@ -4,6 +4,7 @@ pub mod ExcessQuotes
 pub mod Figures
 pub mod PrintBill
 pub mod PrintText
+pub mod PrintValues
 pub mod PrintWrote
 pub mod Quotes
 pub mod Slots

@@ -6,4 +6,4 @@ use Rattle.bill.specs.PrintText.{rendered}
 
 -- what the bill prints, from its serial, its meter code and its items
 abbrev pub bill_text : Issued → List ℕ
-bill_text b = rendered b.serial (code_bytes b.code) b.items
+bill_text b = rendered b.serial (code_bytes b.draft.code) b.draft.items

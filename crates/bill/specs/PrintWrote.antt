@@ -1,5 +1,6 @@
 -- What a writer into a buffer asks for and leaves. Assumes nothing.
 use Rattle.std.specs.Prelude.{◌≡◌, ℕ, ◌+◌, ◌≤◌, List, ◌++◌, length, take, drop}
+use Rattle.bill.specs.declared.write.Writer.{Writer}
 
 -- the buffer xs has room for the bytes bs from a on
 pub record Room (xs : List ℕ) (a : ℕ) (bs : List ℕ) : Type 0 where
@@ -10,3 +11,10 @@ pub record Room (xs : List ℕ) (a : ℕ) (bs : List ℕ) : Type 0 where
 pub record Wrote (xs : List ℕ) (a : ℕ) (bs : List ℕ) (r : ℕ) (ys : List ℕ) : Type 0 where
   pub stops : r ≡ a + length bs
   pub holds : ys ≡ take a xs ++ (bs ++ drop (a + length bs) xs)
+
+-- the same of a writer, which holds the buffer and the place where it goes on
+abbrev pub HasRoom : Writer → List ℕ → Type 0
+HasRoom w bs = Room w.buffer.now w.at bs
+
+abbrev pub Writes : Writer → List ℕ → Writer → Type 0
+Writes w bs v = Wrote w.buffer.now w.at bs v.at v.buffer.now

@@ -38,8 +38,7 @@ impl Draft {
     // The bill, issued under this serial.
     pub fn issue(self, serial: u32) -> Issued
         ensures serial { result.serial ≡ serial }
-        ensures code { result.code ≡ self.code }
-        ensures items { result.items ≡ self.items }
+        ensures draft { result.draft ≡ self }
     {
         Issued::of(self, serial)
     }

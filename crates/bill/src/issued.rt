@@ -1,5 +1,5 @@
 // The issued bill and its print.
-ghost use Rattle.std.specs.Prelude.{◌≡◌, ◌<◌, ◌≤◌, ◌++◌, length, drop, Ok, Err};
+ghost use Rattle.std.specs.Prelude.{◌≡◌, ◌<◌, ◌≤◌, ◌++◌, length, drop, MatchResult};
 ghost use Rattle.calendar.specs.declared.refusal.Refusal.TheVariants.{PrintBufferTooShort};
 ghost use Rattle.readings.specs.CodeBytes.{code_bytes};
 ghost use Rattle.bill.specs.PrintBill.{bill_text};
@@ -23,22 +23,31 @@ fn print_room(serial: u32, code: MeterCode, items: Items) -> usize
 #[derive(Drop)]
 pub struct Issued {
     serial: u32,
-    code: MeterCode,
-    items: Items,
+    draft: Draft,
+}
+
+// A bill that was not printed, and why.
+#[derive(Drop)]
+pub struct Unprinted {
+    pub bill: Issued,
+    pub refusal: Refusal,
+}
+
+impl From<Unprinted> for Refusal {
+    fn from(unprinted: Unprinted) -> Refusal
+        ensures { result ≡ unprinted.refusal }
+    {
+        unprinted.refusal
+    }
 }
 
 impl Issued {
     // The draft, issued under this serial.
     pub(crate) fn of(draft: Draft, serial: u32) -> Issued
         ensures serial { result.serial ≡ serial }
-        ensures code { result.code ≡ draft.code }
-        ensures items { result.items ≡ draft.items }
+        ensures draft { result.draft ≡ draft }
     {
-        Issued {
-            serial,
-            code: draft.code(),
-            items: draft.items(),
-        }
+        Issued { serial, draft }
     }
 
     // The number under which the bill was issued.
@@ -50,29 +59,33 @@ impl Issued {
 
     // The code of the meter.
     pub fn code(&self) -> MeterCode
-        ensures { result ≡ self.now.code }
+        ensures { result ≡ self.now.draft.code }
     {
-        self.code
+        self.draft.code()
     }
 
     // The lines of the bill.
     pub fn items(&self) -> Items
-        ensures { result ≡ self.now.items }
+        ensures { result ≡ self.now.draft.items }
     {
-        self.items
+        self.draft.items()
     }
 
     // Prints the bill from the buffer's start, and answers how many bytes it took. Gives the bill back where the buffer has fewer
     // than 512 bytes, which suffice for every bill.
-    pub fn print(self, buffer: &mut [u8]) -> Result<usize, (Issued, Refusal)>
-        ensures answer { elim result [ Ok n ↦ (512 ≤ length buffer.old) × (n ≡ length (bill_text self)) | Err e ↦ (length buffer.old < 512) × (e.0 ≡ self) × (e.1 ≡ PrintBufferTooShort) ] }
-        ensures written { elim result [ Ok n ↦ buffer.new ≡ bill_text self ++ drop (length (bill_text self)) buffer.old | Err e ↦ buffer.new ≡ buffer.old ] }
+    pub fn print(self, buffer: &mut [u8]) -> Result<usize, Unprinted>
+        ensures answer { MatchResult result (λ n. n ≡ length (bill_text self)) (λ e. (e.bill ≡ self) × (e.refusal ≡ PrintBufferTooShort)) }
+        ensures room { MatchResult result (λ n. 512 ≤ length buffer.old) (λ e. length buffer.old < 512) }
+        ensures written { MatchResult result (λ n. buffer.new ≡ bill_text self ++ drop (length (bill_text self)) buffer.old) (λ e. buffer.new ≡ buffer.old) }
         ensures suffices { length (bill_text self) ≤ 512 }
     {
-        let room = print_room(self.serial, self.code, self.items);
+        let room = print_room(self.serial, self.code(), self.items());
         if buffer.len() < room {
-            return Err((self, Refusal::PrintBufferTooShort));
+            return Err(Unprinted {
+                bill: self,
+                refusal: Refusal::PrintBufferTooShort,
+            });
         }
-        Ok(put_bill(buffer, self.serial, self.code.as_bytes(), self.items))
+        Ok(put_bill(buffer, self.serial, self.code().as_bytes(), self.items()))
     }
 }

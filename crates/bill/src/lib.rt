@@ -15,7 +15,7 @@ mod write;
 pub use contract::{Excess, contract_basic, month_excess};
 pub use draft::Draft;
 pub use figures::figures_shown;
-pub use issued::Issued;
+pub use issued::{Issued, Unprinted};
 pub use items::Items;
 pub use quote::plain_quote;
 

@@ -5,13 +5,6 @@ use readings::MeterCode;
 use std::test::Fail;
 use tariffs::ByRank;
 
-const NONE: ByRank = ByRank {
-    peak: 0,
-    semi_peak: 0,
-    saturday: 0,
-    off_peak: 0,
-};
-
 // A bill of this due over the energies of the example.
 fn bill(due: i64) -> Result<Issued, Refusal> {
     let items = Items {
@@ -23,7 +16,7 @@ fn bill(due: i64) -> Result<Issued, Refusal> {
         },
         energy: 4_681_056,
         basic: 30_000,
-        excess_lines: NONE,
+        excess_lines: ByRank::NONE,
         excess: 0,
         credit: 0,
         extra: 0,
@@ -65,10 +58,9 @@ fn a_short_buffer_gives_the_bill_back(rt: HostRuntime) -> Result<(), Fail> {
     let Err(unprinted) = bill(7)?.print(&mut buffer) else {
         return Err(Fail::new("printed"));
     };
-    let (back, refusal) = unprinted;
-    assert_eq!(rt; refusal, Refusal::PrintBufferTooShort);
-    assert_eq!(rt; back.serial(), 1);
-    assert_eq!(rt; back.items().due, 7);
+    assert_eq!(rt; unprinted.refusal, Refusal::PrintBufferTooShort);
+    assert_eq!(rt; unprinted.bill.serial(), 1);
+    assert_eq!(rt; unprinted.bill.items().due, 7);
     assert!(rt; buffer == [b'.'; 511]);
     Ok(())
 }

@@ -1,87 +1,101 @@
-// Writers into a lent buffer. Each takes where it begins, and answers where it stopped.
-ghost use Rattle.std.specs.Prelude.{[], ◌∷◌, ◌++◌, decimal};
-ghost use Rattle.std.specs.Fmt.{signed_decimal};
+// A writer over a lent buffer: what it writes stands in front of the place where it goes on.
+ghost use Rattle.std.specs.Prelude.{◌≡◌, [], ◌∷◌, decimal};
 ghost use Rattle.bill.specs.PrintText.{line};
-ghost use Rattle.bill.specs.PrintWrote.{Room, Wrote};
+ghost use Rattle.bill.specs.PrintValues.{shown};
+ghost use Rattle.bill.specs.PrintWrote.{HasRoom, Writes};
 
-// Writes one byte.
-fn put_byte(buffer: &mut [u8], at: usize, byte: u8) -> usize
-    requires { Room buffer.old at (byte ∷ []) }
-    ensures { Wrote buffer.old at (byte ∷ []) result buffer.new }
-{
-    buffer[at] = byte;
-    at + 1
+// What a line shows behind its key: text as it stands, or a number in decimal.
+#[derive(Clone, Copy)]
+pub(crate) enum Value<'a> {
+    Text(&'a [u8]),
+    Number(u64),
+    Signed(i64),
 }
 
-// Writes the bytes as they stand.
-fn put_bytes(buffer: &mut [u8], at: usize, bytes: &[u8]) -> usize
-    requires { Room buffer.old at bytes.now }
-    ensures { Wrote buffer.old at bytes.now result buffer.new }
-{
-    let end = at + bytes.len();
-    buffer[at..end].copy_from_slice(bytes);
-    end
+#[derive(Drop)]
+pub(crate) struct Writer<'a> {
+    buffer: &'a mut [u8],
+    at: usize,
 }
 
-// Writes a number in decimal, without leading zeros.
-fn put_decimal(buffer: &mut [u8], at: usize, number: u64) -> usize
-    requires { Room buffer.old at (decimal number) }
-    ensures { Wrote buffer.old at (decimal number) result buffer.new }
-{
-    if number < 10 {
-        return put_byte(buffer, at, b'0' + number as u8);
+impl<'a> Writer<'a> {
+    // A writer that begins at the buffer's start.
+    pub(crate) fn new(buffer: &'a mut [u8]) -> Writer<'a>
+        ensures start { result.at ≡ 0 }
+        ensures untouched { result.buffer.now ≡ buffer.old }
+        ensures named { result.buffer.ghost_name ≡ buffer.entry.ghost_name }
+    {
+        Writer { buffer, at: 0 }
     }
-    let last = put_decimal(buffer, at, number / 10);
-    put_byte(buffer, last, b'0' + (number % 10) as u8)
-}
 
-// Writes a signed number in decimal, with a minus sign in front where it is negative.
-fn put_signed(buffer: &mut [u8], at: usize, number: i64) -> usize
-    requires { Room buffer.old at (signed_decimal number) }
-    ensures { Wrote buffer.old at (signed_decimal number) result buffer.new }
-{
-    if number >= 0 {
-        return put_decimal(buffer, at, number.unsigned_abs());
+    // How many bytes are written.
+    pub(crate) fn count(&self) -> usize
+        ensures { result ≡ self.now.at }
+    {
+        self.at
     }
-    let digits = put_byte(buffer, at, b'-');
-    put_decimal(buffer, digits, number.unsigned_abs())
-}
 
-// Writes a key and an equals sign.
-fn put_key(buffer: &mut [u8], at: usize, key: &[u8]) -> usize
-    requires { Room buffer.old at (key.now ++ 61 ∷ []) }
-    ensures { Wrote buffer.old at (key.now ++ 61 ∷ []) result buffer.new }
-{
-    let sign = put_bytes(buffer, at, key);
-    put_byte(buffer, sign, b'=')
-}
+    // Writes one byte.
+    fn byte(&mut self, byte: u8)
+        requires { HasRoom self.old (byte ∷ []) }
+        ensures wrote { Writes self.old (byte ∷ []) self.new }
+        ensures named { self.new.buffer.ghost_name ≡ self.old.buffer.ghost_name }
+    {
+        self.buffer[self.at] = byte;
+        self.at += 1;
+    }
 
-// Writes a line whose value is text.
-pub(crate) fn text_line(buffer: &mut [u8], at: usize, key: &[u8], text: &[u8]) -> usize
-    requires { Room buffer.old at (line key.now text.now) }
-    ensures { Wrote buffer.old at (line key.now text.now) result buffer.new }
-{
-    let begin = put_key(buffer, at, key);
-    let end = put_bytes(buffer, begin, text);
-    put_byte(buffer, end, b'\n')
-}
+    // Writes the bytes as they stand.
+    fn bytes(&mut self, bytes: &[u8])
+        requires { HasRoom self.old bytes.now }
+        ensures wrote { Writes self.old bytes.now self.new }
+        ensures named { self.new.buffer.ghost_name ≡ self.old.buffer.ghost_name }
+    {
+        let end = self.at + bytes.len();
+        self.buffer[self.at..end].copy_from_slice(bytes);
+        self.at = end;
+    }
 
-// Writes a line whose value is a number.
-pub(crate) fn number_line(buffer: &mut [u8], at: usize, key: &[u8], number: u64) -> usize
-    requires { Room buffer.old at (line key.now (decimal number)) }
-    ensures { Wrote buffer.old at (line key.now (decimal number)) result buffer.new }
-{
-    let begin = put_key(buffer, at, key);
-    let end = put_decimal(buffer, begin, number);
-    put_byte(buffer, end, b'\n')
-}
+    // Writes a number in decimal, without leading zeros.
+    // By hand: std's writers promise what they wrote only where they answer Ok, and a print into 512 bytes can't fail.
+    fn decimal(&mut self, number: u64)
+        requires { HasRoom self.old (decimal number) }
+        ensures wrote { Writes self.old (decimal number) self.new }
+        ensures named { self.new.buffer.ghost_name ≡ self.old.buffer.ghost_name }
+    {
+        if number >= 10 {
+            self.decimal(number / 10);
+        }
+        self.byte(b'0' + (number % 10) as u8);
+    }
 
-// Writes a line whose value is a signed number.
-pub(crate) fn signed_line(buffer: &mut [u8], at: usize, key: &[u8], number: i64) -> usize
-    requires { Room buffer.old at (line key.now (signed_decimal number)) }
-    ensures { Wrote buffer.old at (line key.now (signed_decimal number)) result buffer.new }
-{
-    let begin = put_key(buffer, at, key);
-    let end = put_signed(buffer, begin, number);
-    put_byte(buffer, end, b'\n')
+    // Writes what a line shows.
+    fn value(&mut self, value: Value<'_>)
+        requires { HasRoom self.old (shown value) }
+        ensures wrote { Writes self.old (shown value.entry) self.new }
+        ensures named { self.new.buffer.ghost_name ≡ self.old.buffer.ghost_name }
+    {
+        match value {
+            Value::Text(text) => self.bytes(text),
+            Value::Number(number) => self.decimal(number),
+            Value::Signed(number) => {
+                if number < 0 {
+                    self.byte(b'-');
+                }
+                self.decimal(number.unsigned_abs());
+            }
+        }
+    }
+
+    // Writes a line.
+    pub(crate) fn line(&mut self, key: &[u8], value: Value<'_>)
+        requires { HasRoom self.old (line key.now (shown value)) }
+        ensures wrote { Writes self.old (line key.now (shown value.entry)) self.new }
+        ensures named { self.new.buffer.ghost_name ≡ self.old.buffer.ghost_name }
+    {
+        self.bytes(key);
+        self.byte(b'=');
+        self.value(value);
+        self.byte(b'\n');
+    }
 }

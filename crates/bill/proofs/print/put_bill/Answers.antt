@@ -1,26 +1,29 @@
-use Rattle.bill.proofs.Writing.{room_first, room_then, then_wrote}
+use Rattle.std.proofs.Common.{◌≡◌, ℕ, ◌+◌, ◌<◌, ◌≤◌, List, ◌++◌, length, get_or, drop, Bor, sym, rules}
+use Rattle.std.proofs.lemmas.List.{at_drop_more, at_drop_all}
+use Rattle.bill.specs.declared.write.Value.{Value}
+use Rattle.bill.specs.PrintValues.{row_line, rows_text}
+use Rattle.bill.proofs.Writing.{room_as, room_then, then_wrote, wrote_as, wrote_left, wrote_nothing}
 use Rattle.bill.proofs.print.put_bill.Goals as goal
 
-pub put_head-energies-requires : goal.put_head-energies-requires
-put_head-energies-requires c = room_first _ _ c.requires
+-- the line of the next row, and then those of the rows behind it
+next_row : (rows : List (Bor (List ℕ) × Value)) (i : ℕ) (d : Bor (List ℕ) × Value) → i < length rows → rows_text (drop i rows) ≡ row_line (get_or rows i d) ++ rows_text (drop (i + 1) rows)
+next_row rows i d within = at_drop_more rows_text rows i d within
 
-pub put_energies-excess-requires : goal.put_energies-excess-requires
-put_energies-excess-requires c =
-    room_first _ _ (room_then _ _ c.requires c.put_head-energies.auto.buffer c.put_head-energies.ensures)
-
-pub put_excess-closing-requires : goal.put_excess-closing-requires
-put_excess-closing-requires c =
-    let energies = room_then _ _ c.requires c.put_head-energies.auto.buffer c.put_head-energies.ensures in
-    room_first _ _ (room_then _ _ energies c.put_energies-excess.auto.buffer c.put_energies-excess.ensures)
-
-pub put_closing-requires : goal.put_closing-requires
-put_closing-requires c =
-    let energies = room_then _ _ c.requires c.put_head-energies.auto.buffer c.put_head-energies.ensures in
-    let excess = room_then _ _ energies c.put_energies-excess.auto.buffer c.put_energies-excess.ensures in
-    room_then _ _ excess c.put_excess-closing.auto.buffer c.put_excess-closing.ensures
+pub loop-key-preserved : goal.loop-key-preserved
+loop-key-preserved c =
+    let rows = c.rows-key-items.result in
+    let i = c.loop-key.key-index in
+    let within : i < length rows = search rules in
+    let left = next_row rows i _ within in
+    let room = room_as left c.loop-key.invariant.0 in (
+      room_then (row_line (get_or rows i _)) (rows_text (drop (i + 1) rows)) room c.line.ensures.wrote,
+      λ r zs rest. c.loop-key.invariant.1 r zs (wrote_as (sym left) (then_wrote room c.line.ensures.wrote rest)),
+      search rules,
+    )
 
 pub returns : goal.returns
 returns c =
-    let energies = room_then _ _ c.requires c.put_head-energies.auto.buffer c.put_head-energies.ensures in
-    let excess = room_then _ _ energies c.put_energies-excess.auto.buffer c.put_energies-excess.ensures in
-    then_wrote c.requires c.put_head-energies.ensures (then_wrote energies c.put_energies-excess.ensures (then_wrote excess c.put_excess-closing.ensures c.put_closing.ensures))
+    let rows = c.rows-key-items.result in
+    let done : length rows ≤ c.loop-key.key-index = search rules in
+    let none = at_drop_all rows_text rows c.loop-key.key-index done in
+    wrote_left c.count.ensures (search rules) (wrote_as c.rows-key-items.ensures (c.loop-key.invariant.1 _ _ (wrote_as (sym none) (wrote_nothing _ _))))
