@@ -1,5 +1,5 @@
 -- What a job comes to. Assumes nothing.
-use Rattle.std.specs.Prelude.{◌≡◌, ℕ, suc, ◌≤◌, min, cond, List, [], ◌∷◌, ◌++◌, length, drop, Some, None, Ok, Err, Option, Result, ◌==◌, nat_le, nat_lt}
+use Rattle.std.specs.Prelude.{◌≡◌, ℕ, suc, min, cond, List, [], ◌∷◌, ◌++◌, length, drop, Some, None, Ok, Err, Option, Result, ◌==◌, nat_le, nat_lt}
 use Rattle.calendar.specs.Gregorian.{month_refusal}
 use Rattle.books.specs.OffPeak.{off_peak_answer, after_off_peak}
 use Rattle.books.specs.declared.off_peak.OffPeakDay.{OffPeakDay}
@@ -13,10 +13,8 @@ use Rattle.bill.specs.PrintText.{rendered}
 use Rattle.bill.specs.Quotes.{plain_quote}
 use Rattle.job.specs.declared.statement.TariffName.{TariffName}
 use Rattle.job.specs.declared.statement.TariffName.TheVariants.{H3, L2, S3}
-use Rattle.job.specs.declared.outcome.Stop.{Stop}
-use Rattle.job.specs.declared.outcome.Stop.TheVariants as stop
-use Rattle.job.specs.declared.outcome.Outcome.{Outcome}
-use Rattle.job.specs.declared.outcome.Outcome.TheVariants as outcome
+use Rattle.job.specs.declared.stop.Stop.{Stop}
+use Rattle.job.specs.declared.stop.Stop.TheVariants as stop
 use Rattle.job.specs.JobLines.{said}
 use Rattle.job.specs.Statements.{Says, place_of, code, month, tariff, capacities, programme, flexible, lead, off_peak, call_on, run_of}
 
@@ -123,12 +121,6 @@ abbrev pub printed_bytes : Result (List ℕ) Stop → Result ℕ Stop
 printed_bytes (Ok print) = Ok (length print)
 printed_bytes (Err e) = Err e
 
--- the outcome
-abbrev pub outcome_of : Result ℕ Stop → Outcome
-outcome_of (Ok count) = outcome.Printed count
-outcome_of (Err (stop.Refused e n)) = outcome.Refused e n
-outcome_of (Err (stop.Unsupported n)) = outcome.Unsupported n
-
 -- what the buffer holds then: the print and behind it what it held, or what it held
 abbrev pub buffer_after : Result (List ℕ) Stop → List ℕ → List ℕ
 buffer_after (Ok print) held = print ++ drop (length print) held
@@ -137,12 +129,6 @@ buffer_after (Err e) held = held
 -- what the storage holds then: the readings of the runs that were granted, and behind them what it held
 abbrev pub storage_after : Ending → List ℕ → List ℕ
 storage_after e held = e.state.sheet.readings ++ drop (length e.state.sheet.readings) held
-
--- a print keeps within a buffer of so many bytes
-abbrev pub print_within : Outcome → ℕ → Type 0
-print_within (outcome.Printed count) room = count ≤ room
-print_within (outcome.Refused e n) room = Unit {0}
-print_within (outcome.Unsupported n) room = Unit {0}
 
 -- a job stopped for this reason, with the readings of this sheet
 abbrev pub Halts : Ending → SheetModel → Stop → Type 0

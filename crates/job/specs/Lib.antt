@@ -3,7 +3,10 @@ pub mod JobModels
 pub mod Jobs
 pub mod LineParts
 pub mod Lines
+pub mod Openings
+pub mod Reading
 pub mod Says
 pub mod Statements
+pub mod Stopping
 pub mod Texts
 pub mod Values

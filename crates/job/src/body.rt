@@ -1,70 +1,70 @@
-// The lines of a job behind its six first ones.
-ghost use Rattle.std.specs.Prelude.{◌≡◌, ℕ, ◌+◌, ◌<◌, ◌≤◌, length, drop, None, Ok, Err};
-ghost use Rattle.readings.specs.SheetModels.{sheet_model, sheet_storage, sheet_held};
-ghost use Rattle.books.specs.BookModels.{book_storage};
-ghost use Rattle.job.specs.JobLines.{said};
-ghost use Rattle.job.specs.JobModels.{job_model};
-ghost use Rattle.job.specs.Jobs.{ending, job_from, Halts};
+// The lines of a job behind its six first ones, and the bill of what they leave.
+ghost use Rattle.std.specs.Prelude.{◌≡◌, ◌<◌, ◌≤◌, length, MatchResult};
+ghost use Rattle.job.specs.JobModels.{Keeps, LeadsTo, HaltsAt, EndsAs, job_model};
+ghost use Rattle.job.specs.Jobs.{and_then, bill_of, fitting, printed_bytes, buffer_after};
 
-use crate::header::line_at;
-use crate::outcome::Stop;
+use crate::reader::Reader;
 use crate::statement::Statement;
+use crate::stop::Stop;
+use bill::plain_quote;
 use books::{Book, OffPeakDay, book_off_peak};
 use calendar::Refusal;
 use readings::Sheet;
+use tariffs::S3;
 
-// Carries out the next line, and answers what stands behind it.
+// The serial under which a job's bill is issued.
+const SERIAL: u32 = 1;
+
+// Carries out the next line, and answers the lines behind it. Sheet and book stand side by side here and below: one struct of both was tried, and the
+// check then told the lender of the storage only its length, since it follows a loan through one struct and not through two.
 fn body_line<'t>(
     sheet: &mut Sheet<'_>,
     off_peak: &mut Book<'_, OffPeakDay>,
-    text: &'t [u8],
-    line: u32,
-) -> Result<&'t [u8], Stop>
-    requires some { 0 < length text.now }
-    requires later { 7 ≤ line }
-    ensures goes { elim result [ Ok rest ↦ ((room : ℕ) → job_from room (length (book_storage off_peak.old)) line (job_model sheet.old off_peak.old) (said text.now) ≡ job_from room (length (book_storage off_peak.old)) (line + 1) (job_model sheet.new off_peak.new) (said rest.now)) × (length rest.now < length text.now) | Err e ↦ (room : ℕ) → Halts (job_from room (length (book_storage off_peak.old)) line (job_model sheet.old off_peak.old) (said text.now)) (sheet_model sheet.new) e ] }
-    ensures rest { drop (sheet_held sheet.new) (sheet_storage sheet.new) ≡ drop (sheet_held sheet.new) (sheet_storage sheet.old) }
-    ensures grows { sheet_held sheet.old ≤ sheet_held sheet.new }
-    ensures named { sheet.new.storage.ghost_name ≡ sheet.old.storage.ghost_name }
-    ensures places { length (book_storage off_peak.new) ≡ length (book_storage off_peak.old) }
+    reader: Reader<'t>,
+) -> Result<Reader<'t>, Stop>
+    requires some { 0 < length reader.text.now }
+    requires later { 7 ≤ reader.number }
+    ensures goes { MatchResult result (λ rest. LeadsTo sheet.old off_peak.old reader.entry sheet.new off_peak.new rest) (λ e. HaltsAt sheet.old off_peak.old reader.entry sheet.new e) }
+    ensures keeps { Keeps sheet.old off_peak.old sheet.new off_peak.new }
 {
-    let (statement, rest) = line_at(text, line)?;
+    let (statement, rest) = reader.next()?;
     match statement {
-        Statement::Run { count, demand } => match sheet.run(count as usize, demand) {
-            Ok(_) => Ok(rest),
-            Err(refusal) => Err(Stop::Refused { refusal, line }),
-        },
-        Statement::OffPeak { day } => match book_off_peak(off_peak, day) {
-            Ok(()) => Ok(rest),
-            Err(refusal) => Err(Stop::Refused { refusal, line }),
-        },
-        Statement::Lead { .. } | Statement::Call { .. } => Err(Stop::Unsupported { line }),
-        _ => Err(Stop::Refused {
-            refusal: Refusal::LineOutOfOrder,
-            line,
-        }),
+        Statement::Run { count, demand } => {
+            reader.judged(sheet.run(count as usize, demand))?;
+        }
+        Statement::OffPeak { day } => reader.judged(book_off_peak(off_peak, day))?,
+        Statement::Lead { .. } | Statement::Call { .. } => return Err(reader.unsupported()),
+        _ => return Err(reader.refused(Refusal::LineOutOfOrder)),
     }
+    Ok(rest)
 }
 
 // Carries out the lines from the seventh on.
 pub(crate) fn body(
     sheet: &mut Sheet<'_>,
     off_peak: &mut Book<'_, OffPeakDay>,
-    text: &[u8],
+    reader: Reader<'_>,
 ) -> Result<(), Stop>
-    requires { length text.now ≤ 60000 }
-    ensures ends { elim result [ Ok u ↦ (room : ℕ) → job_from room (length (book_storage off_peak.old)) 7 (job_model sheet.old off_peak.old) (said text.now) ≡ ending (job_model sheet.new off_peak.new) None | Err e ↦ (room : ℕ) → Halts (job_from room (length (book_storage off_peak.old)) 7 (job_model sheet.old off_peak.old) (said text.now)) (sheet_model sheet.new) e ] }
-    ensures rest { drop (sheet_held sheet.new) (sheet_storage sheet.new) ≡ drop (sheet_held sheet.new) (sheet_storage sheet.old) }
-    ensures named { sheet.new.storage.ghost_name ≡ sheet.old.storage.ghost_name }
+    requires { reader.number ≡ 7 }
+    ensures ends { MatchResult result (λ u. EndsAs sheet.old off_peak.old reader.entry sheet.new off_peak.new) (λ e. HaltsAt sheet.old off_peak.old reader.entry sheet.new e) }
+    ensures keeps { Keeps sheet.old off_peak.old sheet.new off_peak.new }
 {
-    let mut rest = text;
-    let mut line: u32 = 7;
+    let mut rest = reader;
     while !rest.is_empty() {
-        match body_line(sheet, off_peak, rest, line) {
-            Ok(behind) => rest = behind,
-            Err(stop) => return Err(stop),
-        }
-        line += 1;
+        rest = body_line(sheet, off_peak, rest)?;
     }
     Ok(())
+}
+
+// Quotes a sheet by S3, issues the bill and prints it.
+pub(crate) fn print_sheet(
+    sheet: &Sheet<'_>,
+    off_peak: &Book<'_, OffPeakDay>,
+    buffer: &mut [u8],
+) -> Result<usize, Stop>
+    ensures answer { result ≡ printed_bytes (and_then (bill_of (job_model sheet.now off_peak.now)) (fitting (length buffer.old))) }
+    ensures written { buffer.new ≡ buffer_after (and_then (bill_of (job_model sheet.now off_peak.now)) (fitting (length buffer.old))) buffer.old }
+{
+    let draft = plain_quote(&S3, sheet, off_peak.entries())?;
+    Ok(draft.issue(SERIAL).print(buffer)?)
 }

@@ -2,16 +2,16 @@
 
 // A job text: its lines, what they say, and the job carried out.
 mod body;
-mod header;
 pub mod job;
 pub mod keys;
 pub mod line;
-pub mod outcome;
+mod reader;
 pub mod statement;
+pub mod stop;
 mod text;
 
 pub use job::{LONGEST_TEXT, run_job};
-pub use outcome::Outcome;
+pub use stop::Stop;
 
 #[cfg(test)]
 mod tests;

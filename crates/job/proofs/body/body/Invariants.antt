@@ -1,20 +1,17 @@
-use Rattle.std.proofs.Common.{◌≡◌, ℕ, ◌+◌, ◌≤◌, length, drop}
-use Rattle.books.specs.BookModels.{book_storage}
-use Rattle.readings.specs.SheetModels.{sheet_storage, sheet_held}
-use Rattle.job.specs.JobLines.{said}
-use Rattle.job.specs.JobModels.{job_model}
+use Rattle.std.proofs.Common.{◌≡◌, ℕ, ◌≤◌, length}
+use Rattle.job.specs.JobModels.{Keeps, book_room, ends_over, job_model}
 use Rattle.job.specs.Jobs.{job_from}
+use Rattle.job.specs.Reading.{told}
 use Rattle.job.proofs.body.body.Given as goal
 
--- what is left of the text decides; each line took a byte at least; past the readings held the storage is as it was
+-- what is left of the text decides over what sheet and book hold
 abbrev pub invariant-loop-rest : goal.invariant-loop-rest
 invariant-loop-rest l =
-    ((room : ℕ) → job_from room (length (book_storage l.initial.off_peak)) l.line (job_model l.sheet l.off_peak) (said l.rest) ≡ job_from room (length (book_storage l.initial.off_peak)) 7 (job_model l.initial.sheet l.initial.off_peak) (said l.text))
-    × (7 ≤ l.line)
-    × (l.line + length l.rest ≤ 7 + length l.text)
-    × (drop (sheet_held l.sheet) (sheet_storage l.sheet) ≡ drop (sheet_held l.sheet) (sheet_storage l.initial.sheet))
-    × (l.sheet.storage.ghost_name ≡ l.initial.sheet.storage.ghost_name)
-    × (length (book_storage l.off_peak) ≡ length (book_storage l.initial.off_peak))
+    record {
+      decides : (room : ℕ) → job_from room (book_room l.initial.off_peak) l.rest.number (job_model l.sheet l.off_peak) (told l.rest) ≡ ends_over room l.initial.sheet l.initial.off_peak l.reader;
+      later : 7 ≤ l.rest.number;
+      keeps : Keeps l.initial.sheet l.initial.off_peak l.sheet l.off_peak;
+    }
 
 abbrev pub decreases-loop-rest : goal.decreases-loop-rest
-decreases-loop-rest l = length l.rest
+decreases-loop-rest l = length l.rest.text.now
