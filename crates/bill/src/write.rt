@@ -1,5 +1,6 @@
 // A writer over a lent buffer: what it writes stands in front of the place where it goes on.
 ghost use Rattle.std.specs.Prelude.{◌≡◌, [], ◌∷◌, decimal};
+ghost use Rattle.bill.specs.declared.write.Value.TheVariants.{Number};
 ghost use Rattle.bill.specs.PrintText.{line};
 ghost use Rattle.bill.specs.PrintValues.{shown};
 ghost use Rattle.bill.specs.PrintWrote.{HasRoom, Writes};
@@ -10,6 +11,14 @@ pub(crate) enum Value<'a> {
     Text(&'a [u8]),
     Number(u64),
     Signed(i64),
+}
+
+impl<'a> From<u32> for Value<'a> {
+    fn from(number: u32) -> Value<'a>
+        ensures { result ≡ Number number }
+    {
+        Value::Number(u64::from(number))
+    }
 }
 
 #[derive(Drop)]
