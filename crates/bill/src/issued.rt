@@ -26,6 +26,7 @@ pub struct Unprinted {
     pub refusal: Refusal,
 }
 
+// Why a bill was not printed.
 impl From<Unprinted> for Refusal {
     fn from(unprinted: Unprinted) -> Refusal
         ensures { result ≡ unprinted.refusal }

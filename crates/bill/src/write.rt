@@ -1,4 +1,4 @@
-// A writer over a lent buffer: what it writes stands in front of the place where it goes on.
+// A writer over a lent buffer, and what the lines that it writes show.
 ghost use Rattle.std.specs.Prelude.{◌≡◌, [], ◌∷◌, decimal};
 ghost use Rattle.bill.specs.declared.write.Value.TheVariants.{Number};
 ghost use Rattle.bill.specs.PrintText.{line};
@@ -13,6 +13,7 @@ pub(crate) enum Value<'a> {
     Signed(i64),
 }
 
+// A number of 32 bits shows as any number does.
 impl<'a> From<u32> for Value<'a> {
     fn from(number: u32) -> Value<'a>
         ensures { result ≡ Number number }
@@ -21,6 +22,7 @@ impl<'a> From<u32> for Value<'a> {
     }
 }
 
+// The lent buffer, and the place where writing goes on.
 #[derive(Drop)]
 pub(crate) struct Writer<'a> {
     buffer: &'a mut [u8],
