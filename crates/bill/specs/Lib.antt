@@ -1,3 +1,4 @@
+pub mod ContractAnswers
 pub mod ContractQuotes
 pub mod Drafts
 pub mod ExcessQuotes

@@ -1,9 +1,7 @@
 // The issued bill and its print.
 ghost use Rattle.std.specs.Prelude.{◌≡◌, ◌<◌, ◌≤◌, ◌++◌, length, drop, MatchResult};
 ghost use Rattle.calendar.specs.declared.refusal.Refusal.TheVariants.{PrintBufferTooShort};
-ghost use Rattle.readings.specs.CodeBytes.{code_bytes};
 ghost use Rattle.bill.specs.PrintBill.{bill_text};
-ghost use Rattle.bill.specs.PrintText.{rendered};
 
 use crate::draft::Draft;
 use crate::items::Items;
@@ -11,13 +9,8 @@ use crate::print::put_bill;
 use calendar::Refusal;
 use readings::MeterCode;
 
-// The bytes that suffice for the print of a bill, whatever it says.
-fn print_room(serial: u32, code: MeterCode, items: Items) -> usize
-    ensures value { result ≡ 512 }
-    ensures suffices { length (rendered serial (code_bytes code) items) ≤ 512 }
-{
-    512
-}
+// The bytes that suffice for the print of every bill.
+const PRINT_ROOM: usize = 512;
 
 // An issued bill. Printing uses it up.
 #[derive(Drop)]
@@ -33,6 +26,7 @@ pub struct Unprinted {
     pub refusal: Refusal,
 }
 
+// Why a bill was not printed.
 impl From<Unprinted> for Refusal {
     fn from(unprinted: Unprinted) -> Refusal
         ensures { result ≡ unprinted.refusal }
@@ -79,8 +73,7 @@ impl Issued {
         ensures written { MatchResult result (λ n. buffer.new ≡ bill_text self ++ drop (length (bill_text self)) buffer.old) (λ e. buffer.new ≡ buffer.old) }
         ensures suffices { length (bill_text self) ≤ 512 }
     {
-        let room = print_room(self.serial, self.code(), self.items());
-        if buffer.len() < room {
+        if buffer.len() < PRINT_ROOM {
             return Err(Unprinted {
                 bill: self,
                 refusal: Refusal::PrintBufferTooShort,

@@ -12,7 +12,7 @@ pub mod quote;
 mod totals;
 mod write;
 
-pub use contract::{Excess, contract_basic, month_excess};
+pub use contract::{Contract, Excess};
 pub use draft::Draft;
 pub use figures::figures_shown;
 pub use issued::{Issued, Unprinted};

@@ -12,40 +12,21 @@ use crate::write::{Value, Writer};
 fn rows<'a>(serial: u32, code: &'a [u8], items: Items) -> [(&'a [u8], Value<'a>); 16]
     ensures { rows_text result ≡ rendered serial code.now items }
 {
+    let energies = items.energies;
+    let excess_lines = items.excess_lines;
     [
         (CODE, Value::Text(code)),
-        (SERIAL, Value::Number(u64::from(serial))),
-        (ENERGY_PEAK, Value::Number(u64::from(items.energies.peak))),
-        (
-            ENERGY_SEMI_PEAK,
-            Value::Number(u64::from(items.energies.semi_peak)),
-        ),
-        (
-            ENERGY_SATURDAY,
-            Value::Number(u64::from(items.energies.saturday)),
-        ),
-        (
-            ENERGY_OFF_PEAK,
-            Value::Number(u64::from(items.energies.off_peak)),
-        ),
+        (SERIAL, Value::from(serial)),
+        (ENERGY_PEAK, Value::from(energies.peak)),
+        (ENERGY_SEMI_PEAK, Value::from(energies.semi_peak)),
+        (ENERGY_SATURDAY, Value::from(energies.saturday)),
+        (ENERGY_OFF_PEAK, Value::from(energies.off_peak)),
         (ENERGY, Value::Number(items.energy)),
         (BASIC, Value::Number(items.basic)),
-        (
-            EXCESS_PEAK,
-            Value::Number(u64::from(items.excess_lines.peak)),
-        ),
-        (
-            EXCESS_SEMI_PEAK,
-            Value::Number(u64::from(items.excess_lines.semi_peak)),
-        ),
-        (
-            EXCESS_SATURDAY,
-            Value::Number(u64::from(items.excess_lines.saturday)),
-        ),
-        (
-            EXCESS_OFF_PEAK,
-            Value::Number(u64::from(items.excess_lines.off_peak)),
-        ),
+        (EXCESS_PEAK, Value::from(excess_lines.peak)),
+        (EXCESS_SEMI_PEAK, Value::from(excess_lines.semi_peak)),
+        (EXCESS_SATURDAY, Value::from(excess_lines.saturday)),
+        (EXCESS_OFF_PEAK, Value::from(excess_lines.off_peak)),
         (EXCESS, Value::Number(items.excess)),
         (CREDIT, Value::Number(items.credit)),
         (EXTRA, Value::Number(items.extra)),

@@ -32,9 +32,7 @@ const PRINTED: &[u8] =
 #[test]
 fn prints_a_bill(rt: HostRuntime) -> Result<(), Fail> {
     let mut buffer = [b'.'; 512];
-    let Ok(n) = bill(11_778)?.print(&mut buffer) else {
-        return Err(Fail::new("refused"));
-    };
+    let n = bill(11_778)?.print(&mut buffer).map_err(Refusal::from)?;
     assert_eq!(rt; n, 141);
     assert!(rt; &buffer[0..131] == PRINTED);
     assert!(rt; &buffer[131..141] == b"due=11778\n".as_slice());
@@ -44,9 +42,7 @@ fn prints_a_bill(rt: HostRuntime) -> Result<(), Fail> {
 #[test]
 fn a_negative_due_has_a_minus_sign(rt: HostRuntime) -> Result<(), Fail> {
     let mut buffer = [b'.'; 512];
-    let Ok(n) = bill(-305)?.print(&mut buffer) else {
-        return Err(Fail::new("refused"));
-    };
+    let n = bill(-305)?.print(&mut buffer).map_err(Refusal::from)?;
     assert_eq!(rt; n, 140);
     assert!(rt; &buffer[131..140] == b"due=-305\n".as_slice());
     Ok(())
@@ -68,9 +64,7 @@ fn a_short_buffer_gives_the_bill_back(rt: HostRuntime) -> Result<(), Fail> {
 #[test]
 fn the_bytes_past_the_print_stay(rt: HostRuntime) -> Result<(), Fail> {
     let mut buffer = [b'.'; 600];
-    let Ok(n) = bill(11_778)?.print(&mut buffer) else {
-        return Err(Fail::new("refused"));
-    };
+    let n = bill(11_778)?.print(&mut buffer).map_err(Refusal::from)?;
     assert_eq!(rt; n, 141);
     assert!(rt; buffer[140] == b'\n');
     assert!(rt; &buffer[141..600] == [b'.'; 459].as_slice());

@@ -1,5 +1,6 @@
-// A writer over a lent buffer: what it writes stands in front of the place where it goes on.
+// A writer over a lent buffer, and what the lines that it writes show.
 ghost use Rattle.std.specs.Prelude.{◌≡◌, [], ◌∷◌, decimal};
+ghost use Rattle.bill.specs.declared.write.Value.TheVariants.{Number};
 ghost use Rattle.bill.specs.PrintText.{line};
 ghost use Rattle.bill.specs.PrintValues.{shown};
 ghost use Rattle.bill.specs.PrintWrote.{HasRoom, Writes};
@@ -12,6 +13,16 @@ pub(crate) enum Value<'a> {
     Signed(i64),
 }
 
+// A number of 32 bits shows as any number does.
+impl<'a> From<u32> for Value<'a> {
+    fn from(number: u32) -> Value<'a>
+        ensures { result ≡ Number number }
+    {
+        Value::Number(u64::from(number))
+    }
+}
+
+// The lent buffer, and the place where writing goes on.
 #[derive(Drop)]
 pub(crate) struct Writer<'a> {
     buffer: &'a mut [u8],
