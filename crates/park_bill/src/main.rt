@@ -2,7 +2,7 @@
 
 // The program: reads a job from standard input, and writes its bill, or why it was refused, to standard output.
 use anyhow::anyhow;
-use job::{LONGEST_TEXT, Outcome, run_job};
+use job::{LONGEST_TEXT, Stop, run_job};
 use std::io::{Read, Write};
 
 // The readings of a month of 31 days, and the bytes that suffice for every print.
@@ -18,14 +18,12 @@ fn answer(
     buffer: &mut [u8],
 ) -> anyhow::Result<()> {
     match run_job(text, storage, buffer) {
-        Outcome::Printed(count) => {
-            rt.stdout().write_all(&buffer[0..count])?;
-        }
-        Outcome::Refused { refusal, line } => {
+        Ok(count) => rt.stdout().write_all(&buffer[..count])?,
+        Err(Stop::Refused { refusal, line }) => {
             let number = refusal.number();
             println!(rt; "refused={number}\nline={line}")?;
         }
-        Outcome::Unsupported { line } => {
+        Err(Stop::Unsupported { line }) => {
             return Err(anyhow!(format!(in rt.alloc(); "line {line} is not carried out yet")?));
         }
     }
