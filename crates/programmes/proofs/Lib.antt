@@ -1,4 +1,5 @@
 pub mod Asking
-pub mod DaySlots
 pub mod Latest
 pub mod ListReadings
+pub mod MeteredDays
+pub mod SlotSums

@@ -3,6 +3,7 @@ pub mod Bids
 pub mod LatestDays
 pub mod Layers
 pub mod Meanings
+pub mod Meterings
 pub mod Parts
 pub mod SiteModels
 pub mod Sites

@@ -1,8 +1,7 @@
 use Rattle.std.proofs.Common.{◌≡◌, cond, sym, ap, ◌∙◌, arith}
 use Rattle.books.specs.declared.call.CallKind.TheVariants.{Programme}
 use Rattle.programmes.specs.Bids.{call_earns, call_owes, is_missed, reduced}
-use Rattle.programmes.specs.Sites.{demand}
-use Rattle.programmes.specs.SiteModels.{site_model}
+use Rattle.programmes.specs.Meterings.{site_of, demand_of}
 use Rattle.programmes.specs.Sums.{sum_below}
 use Rattle.programmes.specs.BidLaws.{bid_sums}
 use Rattle.programmes.specs.CallSums.{day_adds}
@@ -14,8 +13,8 @@ loop-k-init c = (sym (sum_none _), sym (sum_none _), sym (sum_none _), omega ari
 
 pub loop-k-preserved : goal.loop-k-preserved
 loop-k-preserved c =
-    let s = site_model c.args.site.now in
-    let kw = demand c.args.lead.now c.args.readings.now in
+    let s = site_of c.args.metered.now in
+    let kw = demand_of c.args.metered.now in
     let t = c.args.self.now.terms in
     let bounds = c.settle_day-settled.ensures.bounds in (
       day_adds s Programme (call_earns t.price s kw) c.loop-k.k _ _ _ c.loop-k.invariant.0 c.settle_day-settled.ensures.earned c.call-call.ensures,
@@ -28,8 +27,8 @@ loop-k-preserved c =
 
 pub returns : goal.returns
 returns c =
-    let s = site_model c.args.site.now in
-    let kw = demand c.args.lead.now c.args.readings.now in
+    let s = site_of c.args.metered.now in
+    let kw = demand_of c.args.metered.now in
     let t = c.args.self.now.terms in
     let end : c.loop-k.k ≡ s.days = omega (arith, c.loop-k.auto.k-end, c.loop-k-test.false, c.days-k-end.ensures.value) in
     let totals = c.call_totals-totals in
