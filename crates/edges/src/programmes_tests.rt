@@ -26,7 +26,7 @@ fn settled<P: Programme>(
     readings: &[u32],
 ) -> Result<(u64, u64), Fail> {
     let metered = Metered::new(*site, lead, readings)?;
-    match programme.refusal(metered.site()) {
+    match programme.refusal(&metered.site()) {
         Some(_) => Err(Fail::new("refused")),
         None => Ok(programme.settle(&metered)),
     }

@@ -48,7 +48,7 @@ fn settled<P: Programme>(
     readings: &[u32],
 ) -> Result<(u64, u64), Unsettled> {
     let metered = Metered::new(site, lead, readings).map_err(|_| Unsettled::NotFull)?;
-    match programme.refusal(metered.site()) {
+    match programme.refusal(&metered.site()) {
         Some(refusal) => Err(Unsettled::Refused(refusal)),
         None => Ok(programme.settle(&metered)),
     }

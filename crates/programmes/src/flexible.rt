@@ -2,7 +2,6 @@
 ghost use Rattle.std.specs.Prelude.{◌≡◌, ◌+◌, ◌<◌, ◌≤◌, None};
 ghost use Rattle.programmes.specs.Layers.{flexible, shared_credit, apart_credit, flexible_adds};
 ghost use Rattle.programmes.specs.Meterings.{site_of, demand_of};
-ghost use Rattle.programmes.specs.Sites.{for_call};
 ghost use Rattle.programmes.specs.LayerLaws.{flexible_laws};
 
 use crate::average::{GRAINS_A_KW, slots_in, worth};
@@ -31,12 +30,7 @@ impl<P: BareProgramme> Flexible<P> {
     }
 
     // What a call adds in the slots that it shares with the lower programme's own call of the day.
-    fn shared_credit(
-        &self,
-        metered: &Metered<'_>,
-        day: u8,
-        call: Call,
-    ) -> u64
+    fn shared_credit(&self, metered: &Metered<'_>, day: u8, call: Call) -> u64
         requires granted { (P.Programme.meaning self.now.lower).refusal (site_of metered.now) ≡ None }
         requires from { 31 ≤ day }
         requires within { day < 31 + (site_of metered.now).days }
@@ -46,10 +40,7 @@ impl<P: BareProgramme> Flexible<P> {
         let part = Part::Shared(call, self.lower.own_call(&metered.site, day));
         let contract = u64::from(self.lower.reduction()) * GRAINS_A_KW;
         let average = metered.average_in(&part, day);
-        let reduction = self
-            .lower
-            .baseline(metered, day)
-            .saturating_sub(average);
+        let reduction = self.lower.baseline(metered, day).saturating_sub(average);
         let price = PRICE.saturating_sub(self.lower.price_past());
         worth(
             reduction.saturating_sub(contract),
@@ -59,12 +50,7 @@ impl<P: BareProgramme> Flexible<P> {
     }
 
     // What it adds in its other slots.
-    fn apart_credit(
-        &self,
-        metered: &Metered<'_>,
-        day: u8,
-        call: Call,
-    ) -> u64
+    fn apart_credit(&self, metered: &Metered<'_>, day: u8, call: Call) -> u64
         ensures value { result ≡ apart_credit (P.Programme.meaning self.now.lower) (site_of metered.now) (demand_of metered.now) day call }
         ensures bound { result ≤ 3840000000 }
     {
@@ -74,26 +60,15 @@ impl<P: BareProgramme> Flexible<P> {
         worth(reduction, slots_in(&part), u64::from(PRICE))
     }
 
-    // What the call of a day adds to the credit, if there is one.
-    fn added(
-        &self,
-        metered: &Metered<'_>,
-        day: u8,
-        call: Option<Call>,
-    ) -> u64
+    // What a call adds to the credit.
+    fn added(&self, metered: &Metered<'_>, day: u8, call: Call) -> u64
         requires granted { (P.Programme.meaning self.now.lower).refusal (site_of metered.now) ≡ None }
         requires from { 31 ≤ day }
         requires within { day < 31 + (site_of metered.now).days }
-        ensures value { result ≡ for_call call (flexible_adds (P.Programme.meaning self.now.lower) (site_of metered.now) (demand_of metered.now) day) }
+        ensures value { result ≡ flexible_adds (P.Programme.meaning self.now.lower) (site_of metered.now) (demand_of metered.now) day call }
         ensures bound { result ≤ 7680000000 }
     {
-        match call {
-            Some(c) => {
-                self.shared_credit(metered, day, c)
-                    + self.apart_credit(metered, day, c)
-            }
-            None => 0,
-        }
+        self.shared_credit(metered, day, call) + self.apart_credit(metered, day, call)
     }
 }
 
@@ -110,17 +85,8 @@ impl<P: BareProgramme> Programme for Flexible<P> {
     }
 
     fn refusal(&self, site: &Site<'_>) -> Option<Refusal> {
-        let below = self.lower.refusal(site);
-        match below {
-            Some(_) => below,
-            None => {
-                if too_few_days(site, CallKind::Flexible) {
-                    Some(Refusal::TooFewDaysToAverage)
-                } else {
-                    None
-                }
-            }
-        }
+        let own = too_few_days(site, CallKind::Flexible).then_some(Refusal::TooFewDaysToAverage);
+        self.lower.refusal(site).or(own)
     }
 
     fn own_call(&self, site: &Site<'_>, day: u8) -> Option<Call> {
@@ -143,10 +109,10 @@ impl<P: BareProgramme> Programme for Flexible<P> {
         let (credit, extra) = self.lower.settle(metered);
         let site = &metered.site;
         let mut added = 0;
-        for k in 0..site.month.days() {
-            let day = LEAD_DAYS + k;
-            let call = site.call(CallKind::Flexible, day);
-            added += self.added(metered, day, call);
+        for day in LEAD_DAYS..site.end_day() {
+            if let Some(call) = site.call(CallKind::Flexible, day) {
+                added += self.added(metered, day, call);
+            }
         }
         (credit + added, extra)
     }

@@ -13,11 +13,7 @@ const LEAD_READINGS: usize = SLOTS_A_DAY * LEAD_DAYS as usize;
 
 impl<'a> Metered<'a> {
     // A site with these readings of its lead and of its month.
-    pub fn new(
-        site: Site<'a>,
-        lead: &'a [u32],
-        readings: &'a [u32],
-    ) -> Result<Metered<'a>, Refusal>
+    pub fn new(site: Site<'a>, lead: &'a [u32], readings: &'a [u32]) -> Result<Metered<'a>, Refusal>
         ensures { MatchResult result (λ m. IsMetered m site.entry lead.now readings.now) (λ e. metering_refusal site.entry lead.now readings.now ≡ Some e) }
     {
         let month = FullMonth::new(site.month, readings)?;
@@ -33,10 +29,10 @@ impl<'a> Metered<'a> {
     }
 
     // The site.
-    pub fn site(&self) -> &Site<'a>
-        ensures { result.now ≡ self.now.site }
+    pub fn site(&self) -> Site<'a>
+        ensures { result ≡ self.now.site }
     {
-        &self.site
+        self.site
     }
 
     // The 96 readings of a day of the lead or the month, where they stand; none of another day.
