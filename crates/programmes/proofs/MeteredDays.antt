@@ -1,13 +1,15 @@
 -- The readings of a metered site: of a day, or of none, as sums take them, and none above the highest. Assumes nothing.
-use Rattle.std.proofs.Common.{◌≡◌, ℕ, zero, suc, ◌+◌, ◌*◌, ◌<◌, ◌≤◌, Bool, false, ltb, List, [], ◌∷◌, ◌++◌, Option, Some, None, Bor, length, get_or, unwrap_or, MatchOption, sym, ap, ◌∙◌, arith}
+use Rattle.std.proofs.Common.{◌≡◌, ℕ, zero, suc, ◌+◌, ◌*◌, ◌<◌, ◌≤◌, Bool, false, ltb, List, [], ◌∷◌, ◌++◌, Option, Some, None, Bor, length, sum_by, get_or, unwrap_or, MatchOption, sym, ap, ◌∙◌, arith}
 use Rattle.std.proofs.lemmas.List.{get_or_past, length-append}
 use Rattle.std.proofs.lemmas.Bool.{or_parts}
 use Rattle.std.proofs.lemmas.Bool.Decides.{nat_tests}
+use Rattle.std.proofs.lemmas.List.Sums.{sum_by-cons}
 use Rattle.readings.specs.Sheets.{any_above}
 use Rattle.programmes.specs.declared.metered.Metered.{Metered}
-use Rattle.programmes.specs.Averages.{kw_in}
+use Rattle.programmes.specs.Averages.{kw_in, averaged}
 use Rattle.programmes.specs.Meterings.{site_of, demand_of, ReadsDay}
-use Rattle.programmes.specs.Amounts.{kw_like}
+use Rattle.programmes.specs.Sites.{eligible}
+use Rattle.programmes.specs.Amounts.{kw_like, kw_bounded, slots_few, latest_few}
 
 module _ (m : Metered) (d : ℕ) where
   -- a day behind the month has no demand
@@ -36,3 +38,17 @@ low_append (x ∷ xs) ys (suc i) e f = low_append xs ys i (or_parts (ltb 40000 x
 
 pub metered_low : (m : Metered) (d slot : ℕ) → demand_of m d slot ≤ 40000
 metered_low m d slot = low_append m.lead.now m.readings.now (96 * d + slot) m.full.lead_low m.full.month_low
+
+-- the sum over the days averaged
+sum_small : (f : ℕ → ℕ) (most : ℕ) (es : List ℕ) → ((e : ℕ) → f e ≤ most) → sum_by f es ≤ length es * most
+sum_small f most [] low = omega arith
+sum_small f most (e ∷ es) low = omega (arith, sum_by-cons f e es, low e, sum_small f most es low)
+
+pub averaged_small : (m : Metered) (set : ℕ → Bool) (d : ℕ) → sum_by (λ e. kw_in set (demand_of m e)) (averaged (site_of m) d) ≤ 19200000
+averaged_small m set d =
+    let slots = slots_few set in
+    let all =
+    sum_small (λ e. kw_in set (demand_of m e)) 3840000 (averaged (site_of m) d)
+    (λ e. let kw = kw_bounded set (demand_of m e) (metered_low m e) in omega (arith, kw, slots)) in
+    let few = latest_few 5 (eligible (site_of m)) d in
+    omega (arith, all, few)

@@ -1,6 +1,5 @@
 pub mod Averages
 pub mod Bids
-pub mod LatestDays
 pub mod Layers
 pub mod Meanings
 pub mod Meterings

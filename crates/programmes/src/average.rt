@@ -1,7 +1,6 @@
 // Average demand in grains, and what a reduction of it is worth.
 ghost use Rattle.std.specs.Prelude.{◌≡◌, ℕ, ◌+◌, ◌*◌, ◌^◌, ◌/◌, ◌<◌, ◌≤◌, length, sum_by, slice_index};
 ghost use Rattle.programmes.specs.Averages.{kw_in, slots_in, average_in, averaged, five_day, worth};
-ghost use Rattle.programmes.specs.LatestDays.{latest_days};
 ghost use Rattle.programmes.specs.Parts.{holds};
 ghost use Rattle.programmes.specs.Meterings.{site_of, demand_of};
 ghost use Rattle.programmes.specs.SiteModels.{site_model};
@@ -47,47 +46,15 @@ pub(crate) fn quotient(amount: u64, over: u64) -> u64
     if over == 0 { 0 } else { amount / over }
 }
 
-// Up to five days, the latest first.
-#[derive(Clone, Copy)]
-pub(crate) struct LatestDays {
-    days: [u8; DAYS_AVERAGED],
-    count: usize,
-}
-
-impl LatestDays {
-    // How many days these are.
-    pub(crate) fn count(&self) -> usize
-        ensures { result ≡ self.now.count }
-    {
-        self.count
-    }
-
-    // The days, where they stand.
-    fn as_slice(&self) -> &[u8]
-        requires { self.now.count ≤ 5 }
-        ensures { result.now ≡ latest_days self.now }
-    {
-        &self.days[0..self.count]
-    }
-}
-
-// The days averaged for a day: the five latest before it that may be averaged, or fewer where there are no more.
-pub(crate) fn days_to_average(site: &Site<'_>, day: u8) -> LatestDays
-    ensures days { latest_days result ≡ averaged (site_model site.now) day }
-    ensures count { result.count ≡ length (averaged (site_model site.now) day) }
-    ensures few { result.count ≤ 5 }
+// How many days are averaged for a day: the five latest before it that may be averaged, or fewer where there are no more.
+pub(crate) fn days_averaged(site: &Site<'_>, day: u8) -> usize
+    ensures { result ≡ length (averaged (site_model site.now) day) }
 {
-    let mut days = [0; DAYS_AVERAGED];
-    let mut count = 0;
-    let mut before = day;
-    while before > 0 && count < DAYS_AVERAGED {
-        before -= 1;
-        if site.is_eligible(before) {
-            days[count] = before;
-            count += 1;
-        }
-    }
-    LatestDays { days, count }
+    (0..day)
+        .rev()
+        .filter(|day| site.is_eligible(*day))
+        .take(DAYS_AVERAGED)
+        .count()
 }
 
 impl Metered<'_> {
@@ -102,13 +69,14 @@ impl Metered<'_> {
     // The sum of those, over the days averaged for a day.
     fn averaged_kw(&self, part: &Part, day: u8) -> u64
         ensures value { result ≡ sum_by (λ e. kw_in (holds part.now) (demand_of self.now e)) (averaged (site_of self.now) day) }
-        ensures bound { result ≤ 480 * 2 ^ 32 }
+        ensures bound { result ≤ 19200000 }
     {
-        let mut sum = 0;
-        for earlier in days_to_average(&self.site, day).as_slice() {
-            sum += self.kw_on(part, *earlier);
-        }
-        sum
+        (0..day)
+            .rev()
+            .filter(|earlier| self.site.is_eligible(*earlier))
+            .take(DAYS_AVERAGED)
+            .map(|earlier| self.kw_on(part, earlier))
+            .sum()
     }
 
     // The five-day average of a part for a day, in grains.

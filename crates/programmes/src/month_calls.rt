@@ -4,7 +4,7 @@ ghost use Rattle.programmes.specs.Averages.{some_too_few};
 ghost use Rattle.programmes.specs.Bids.{some_length_not_taken, call_count, called_hours};
 ghost use Rattle.programmes.specs.SiteModels.{site_model};
 
-use crate::average::{DAYS_AVERAGED, days_to_average};
+use crate::average::{DAYS_AVERAGED, days_averaged};
 use crate::site::{LEAD_DAYS, Site};
 use books::{Call, CallKind};
 
@@ -13,7 +13,7 @@ pub(crate) fn too_few_days(site: &Site<'_>, kind: CallKind) -> bool
     ensures { result ≡ some_too_few (site_model site.now) kind }
 {
     (LEAD_DAYS..site.end_day()).any(|day| {
-        site.call(kind, day).is_some() && days_to_average(site, day).count() < DAYS_AVERAGED
+        site.call(kind, day).is_some() && days_averaged(site, day) < DAYS_AVERAGED
     })
 }
 

@@ -1,42 +1,40 @@
-use Rattle.std.proofs.Common.{ℕ, length, sum_by, refl, ap, ◌∙◌, arith}
-use Rattle.std.proofs.lemmas.List.{take_all}
+use Rattle.std.proofs.Common.{◌≡◌, ℕ, ◌^◌, ◌≤◌, filter, take, sum_by, sym, ap, ◌∙◌, subst, rules, tests, arith}
+use Rattle.std.proofs.lemmas.Iterator.{YieldsList-from_take, YieldsList-from_map}
+use Rattle.std.proofs.lemmas.Iterator.Consumers.{YieldsList-at, YieldsList-from_filter, sum_by_from_yields_List, fits_by_from_yields_list}
 use Rattle.programmes.specs.Averages.{kw_in, averaged}
 use Rattle.programmes.specs.Meterings.{site_of, demand_of}
 use Rattle.programmes.specs.Parts.{holds}
 use Rattle.programmes.specs.Sites.{eligible}
-use Rattle.programmes.specs.Amounts.{latest_few}
-use Rattle.programmes.proofs.Latest.{item_adds}
+use Rattle.programmes.proofs.Latest.{days_back, range_back, latest_are}
+use Rattle.programmes.proofs.MeteredDays.{averaged_small}
 use Rattle.programmes.proofs.metered.Metered.averaged_kw.Goals as goal
 
-pub loop-earlier-init : goal.loop-earlier-init
-loop-earlier-init c = (refl, omega arith)
-
-pub overflow_add-sum : goal.overflow_add-sum
-overflow_add-sum c =
-    let is = c.as_slice-earlier-items.ensures ∙ c.days_to_average.ensures.days in
-    let few = latest_few 5 (eligible (site_of c.args.self.now)) c.args.day in
-    let long = ap length is in
-    let test = c.loop-earlier-test.true in
-    omega (arith, few, long, test, c.loop-earlier.invariant.1, c.kw_on-sum.ensures.bound)
-
-pub loop-earlier-preserved : goal.loop-earlier-preserved
-loop-earlier-preserved c =
-    let is = c.as_slice-earlier-items.ensures ∙ c.days_to_average.ensures.days in
-    let f : ℕ → ℕ = λ e. kw_in (holds c.args.part.now) (demand_of c.args.self.now e) in (
-      item_adds _ _ c.loop-earlier.earlier-index is f _ _ c.loop-earlier-test.true c.loop-earlier.invariant.0 c.kw_on-sum.ensures.value,
-      omega (arith, c.loop-earlier.invariant.1, c.kw_on-sum.ensures.bound),
-    )
+pub sum-requires-clause-fits : goal.sum-requires-clause-fits
+sum-requires-clause-fits c =
+    let ok = eligible (site_of c.args.self.now) in
+    let kw : ℕ → ℕ = λ e. kw_in (holds c.args.part.now) (demand_of c.args.self.now e) in
+    let same = ap (sum_by kw) (latest_are 5 ok c.args.day) in
+    let small = averaged_small c.args.self.now (holds c.args.part.now) c.args.day in
+    fits_by_from_yields_list kw (take 5 (filter ok (days_back 0 c.args.day))) c.map.result (2 ^ 64)
+    (YieldsList-from_map _ kw
+    (YieldsList-at c.map.ensures.source (YieldsList-from_take 5
+    (YieldsList-at c.take.ensures.source (YieldsList-from_filter _ ok (YieldsList-at c.filter.ensures.source (range_back c.args.day c.rev.ensures.source)) c.filter.ensures.closure (λ x r q k. search (rules, tests))))
+    c.take.ensures.count))
+    c.map.ensures.closure
+    (λ x r q k. search (rules, tests)))
+    (omega (arith, same, small))
 
 pub returns : goal.returns
 returns c =
-    let es = averaged (site_of c.args.self.now) c.args.day in
-    let is = c.as_slice-earlier-items.ensures ∙ c.days_to_average.ensures.days in
-    let few = latest_few 5 (eligible (site_of c.args.self.now)) c.args.day in
-    let long = ap length is in
-    let done = c.loop-earlier-test.false in
-    let kept = c.loop-earlier.auto.earlier-index-end in
-    let whole = take_all c.loop-earlier.earlier-index es (omega (arith, long, done)) in
-    record {
-      value = c.loop-earlier.invariant.0 ∙ ap (sum_by (λ e. kw_in (holds c.args.part.now) (demand_of c.args.self.now e))) whole;
-      bound = omega (arith, few, long, kept, c.loop-earlier.invariant.1);
-    }
+    let ok = eligible (site_of c.args.self.now) in
+    let kw : ℕ → ℕ = λ e. kw_in (holds c.args.part.now) (demand_of c.args.self.now e) in
+    let value : c.sum.result ≡ sum_by kw (averaged (site_of c.args.self.now) c.args.day) =
+    sum_by_from_yields_List kw (take 5 (filter ok (days_back 0 c.args.day))) c.map.result _ c.sum.ensures.ran
+    (YieldsList-from_map _ kw
+    (YieldsList-at c.map.ensures.source (YieldsList-from_take 5
+    (YieldsList-at c.take.ensures.source (YieldsList-from_filter _ ok (YieldsList-at c.filter.ensures.source (range_back c.args.day c.rev.ensures.source)) c.filter.ensures.closure (λ x r q k. search (rules, tests))))
+    c.take.ensures.count))
+    c.map.ensures.closure
+    (λ x r q k. search (rules, tests)))
+    ∙ ap (sum_by kw) (latest_are 5 ok c.args.day) in
+    record { value = value; bound = subst (λ n. n ≤ 19200000) (sym value) (averaged_small c.args.self.now (holds c.args.part.now) c.args.day) }
