@@ -7,6 +7,7 @@ pub mod Parts
 pub mod SiteModels
 pub mod Sites
 pub mod Sums
+pub mod Terms
 pub mod BidLaws
 pub mod Amounts
 pub mod SumLaws

@@ -43,7 +43,7 @@ pub(crate) fn slots_in(part: &Part) -> u64
 pub(crate) fn quotient(amount: u64, over: u64) -> u64
     ensures { result ≡ amount / over }
 {
-    if over == 0 { 0 } else { amount / over }
+    amount.checked_div(over).unwrap_or(0)
 }
 
 // How many days are averaged for a day: the five latest before it that may be averaged, or fewer where there are no more.

@@ -25,7 +25,7 @@ const LEAST_REDUCTION: u64 = 20 * GRAINS_A_KW;
 // The least price in cents of what a missed call owes.
 const LEAST_EXTRA_PRICE: u32 = 200;
 
-#[derive(Clone, Copy)]
+#[derive(Clone, Copy, PartialEq, Eq, Debug)]
 pub struct Bid {
     terms: BidTerms,
 }

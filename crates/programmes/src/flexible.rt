@@ -16,7 +16,7 @@ use calendar::Refusal;
 // The price past K of the layer, in cents.
 const PRICE: u32 = 1_000;
 
-#[derive(Clone, Copy)]
+#[derive(Clone, Copy, PartialEq, Eq, Debug)]
 pub struct Flexible<P> {
     lower: P,
 }

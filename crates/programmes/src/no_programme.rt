@@ -8,7 +8,7 @@ use crate::site::Site;
 use books::{Call, CallKind};
 use calendar::Refusal;
 
-#[derive(Clone, Copy)]
+#[derive(Clone, Copy, PartialEq, Eq, Debug)]
 pub struct NoProgramme;
 
 impl Programme for NoProgramme {

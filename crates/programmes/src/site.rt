@@ -46,12 +46,8 @@ impl Site<'_> {
         ensures { result ≡ eligible (site_model self.now) day }
     {
         let number = self.day_number(day);
-        match DayKind::of(number, is_off_peak(self.off_peak, number)) {
-            DayKind::Working => {
-                call_on(self.calls, number, CallKind::Programme).is_none()
-                    && call_on(self.calls, number, CallKind::Flexible).is_none()
-            }
-            _ => false,
-        }
+        DayKind::of(number, is_off_peak(self.off_peak, number)) == DayKind::Working
+            && call_on(self.calls, number, CallKind::Programme).is_none()
+            && call_on(self.calls, number, CallKind::Flexible).is_none()
     }
 }
