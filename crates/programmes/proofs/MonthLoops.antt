@@ -1,8 +1,7 @@
 -- Loops and tests over the days of a month, counted from the first of the lead. Assumes nothing.
-use Rattle.std.proofs.Common.{◌≡◌, ℕ, zero, suc, ◌+◌, ◌-◌, ◌<◌, ◌≤◌, Bool, true, false, cond, ◌||◌, Option, Some, None, MatchOption, sym, refl, ap, ◌∙◌, subst, arith}
+use Rattle.std.proofs.Common.{◌≡◌, ℕ, zero, suc, ◌+◌, ◌-◌, ◌≤◌, Bool, true, false, cond, ◌||◌, Option, Some, None, sym, refl, ap, ◌∙◌, arith}
 use mir.Val.{bool_byte}
 use Rattle.std.specs.List.{range_with_len, list_any}
-use Rattle.std.proofs.lemmas.Bool.{or_from}
 use Rattle.books.specs.declared.call.Call.{Call}
 use Rattle.books.specs.declared.call.CallKind.{CallKind}
 use Rattle.programmes.specs.Sites.{SiteModel, call_at, for_call, sum_of_calls}

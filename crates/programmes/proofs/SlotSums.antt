@@ -1,12 +1,12 @@
 -- Sums over the slots of a day, as a chain takes them from a range. Assumes nothing.
-use Rattle.std.proofs.Common.{◌≡◌, ℕ, zero, suc, ◌+◌, ◌*◌, ◌^◌, ◌<◌, ◌≤◌, Bool, true, false, cond, List, [], ◌∷◌, length, get_or, filter, sum_by, Fits, w32, sym, refl, ap, ◌∙◌, arith}
+use Rattle.std.proofs.Common.{◌≡◌, ℕ, zero, suc, ◌+◌, ◌*◌, ◌^◌, ◌<◌, ◌≤◌, Bool, cond, List, [], ◌∷◌, length, get_or, filter, sum_by, Fits, w32, sym, ap, ◌∙◌, arith}
 use Rattle.std.proofs.Math.Facts.{Fits-lt-pow}
 use Rattle.std.specs.List.{range_with_len, zip}
 use Rattle.std.proofs.lemmas.Bool.{cond_both}
 use Rattle.std.proofs.lemmas.List.Sums.{sum_by-cons}
 use Rattle.programmes.specs.Averages.{kw_in, slots_in}
 use Rattle.programmes.specs.Sums.{sum_below}
-use Rattle.programmes.specs.SumLaws.{sum_none, sum_more, sum_bounded}
+use Rattle.programmes.specs.SumLaws.{sum_none, sum_bounded}
 
 -- a sum, its first number apart
 sum_front : (f : ℕ → ℕ) (n : ℕ) → sum_below f (suc n) ≡ f 0 + sum_below (λ k. f (suc k)) n

@@ -1,5 +1,4 @@
 use Rattle.std.proofs.Common.{◌≡◌, ◌+◌, sym, refl, ◌∙◌, arith}
-use Rattle.books.specs.declared.call.Call.{Call}
 use Rattle.books.specs.declared.call.CallKind.TheVariants.{Programme}
 use Rattle.programmes.specs.SiteModels.{site_model}
 use Rattle.programmes.proofs.MonthLoops.{before_month, called_day, other_day, behind_month}
@@ -20,17 +19,17 @@ loop-day-preserved c =
     let lasting = inv.3 in
     elim c.match-call.branch [
       | in-Some w ↦ (
-          called_day s Programme (λ _ _. 1) d _ _ (omega arith) inv.0 c.call.ensures w.in-Some.call 1 _ w.in-Some.is w.count-is refl,
-          called_day s Programme (λ _ c. c.hours) d _ _ (omega arith) inv.1 c.call.ensures w.in-Some.call _ _ w.in-Some.is w.hours-is (w.from-hours.ensures ∙ w.hours.ensures),
-          omega (arith, w.count-is),
-          omega (arith, w.hours-is, w.from-hours.ensures, w.hours.ensures, w.in-Some.call.hours_to),
-        )
+        called_day s Programme (λ _ _. 1) d _ _ (omega arith) inv.0 c.call.ensures w.in-Some.call 1 _ w.in-Some.is w.count-is refl,
+        called_day s Programme (λ _ c. c.hours) d _ _ (omega arith) inv.1 c.call.ensures w.in-Some.call _ _ w.in-Some.is w.hours-is (w.from-hours.ensures ∙ w.hours.ensures),
+        omega (arith, w.count-is),
+        omega (arith, w.hours-is, w.from-hours.ensures, w.hours.ensures, w.in-Some.call.hours_to),
+      )
       | in_default w ↦ (
-          w.count-is ∙ other_day s Programme (λ _ _. 1) d _ _ (omega arith) inv.0 c.call.ensures w.in_default.is,
-          w.hours-is ∙ other_day s Programme (λ _ c. c.hours) d _ _ (omega arith) inv.1 c.call.ensures w.in_default.is,
-          omega (arith, w.count-is),
-          omega (arith, w.hours-is),
-        )
+        w.count-is ∙ other_day s Programme (λ _ _. 1) d _ _ (omega arith) inv.0 c.call.ensures w.in_default.is,
+        w.hours-is ∙ other_day s Programme (λ _ c. c.hours) d _ _ (omega arith) inv.1 c.call.ensures w.in_default.is,
+        omega (arith, w.count-is),
+        omega (arith, w.hours-is),
+      )
     ]
 
 pub returns : goal.returns

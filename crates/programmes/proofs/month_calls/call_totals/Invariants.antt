@@ -1,4 +1,4 @@
-use Rattle.std.proofs.Common.{◌≡◌, ◌+◌, ◌-◌, ◌*◌, ◌≤◌}
+use Rattle.std.proofs.Common.{◌≡◌, ◌+◌, ◌*◌, ◌≤◌}
 use Rattle.books.specs.declared.call.CallKind.TheVariants.{Programme}
 use Rattle.programmes.specs.SiteModels.{site_model}
 use Rattle.programmes.proofs.MonthLoops.{sum_before}

@@ -1,4 +1,4 @@
-use Rattle.std.proofs.Common.{ℕ, Bool, ◌+◌, ◌&&◌, length, is_some, nat_lt, refl, ap, ◌∙◌, rules, tests, arith}
+use Rattle.std.proofs.Common.{ℕ, Bool, ◌+◌, ◌&&◌, length, is_some, nat_lt, ◌∙◌, rules, tests, arith}
 use Rattle.std.proofs.lemmas.Iterator.{YieldsList-from_range}
 use Rattle.std.proofs.lemmas.Iterator.Search.{any_from_yields_List}
 use Rattle.programmes.specs.Averages.{averaged}

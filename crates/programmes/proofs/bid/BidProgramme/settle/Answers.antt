@@ -40,13 +40,13 @@ loop-day-preserved c =
             omega (arith, w.missed-is, missed, number_few (is_missed t.reduction (reduced s kw d w.in-Some.call)), inv.5),
           )
       | in_default w ↦ (
-          w.earned-is ∙ other_day s Programme (call_earns t.price s kw) d _ _ (omega arith) inv.0 c.call.ensures w.in_default.is,
-          w.owed-is ∙ other_day s Programme (call_owes t.reduction t.price s kw) d _ _ (omega arith) inv.1 c.call.ensures w.in_default.is,
-          w.missed-is ∙ other_day s Programme (λ d c. cond (is_missed t.reduction (reduced s kw d c)) 1 0) d _ _ (omega arith) inv.2 c.call.ensures w.in_default.is,
-          omega (arith, w.earned-is, inv.3),
-          omega (arith, w.owed-is, inv.4),
-          omega (arith, w.missed-is, inv.5),
-        )
+        w.earned-is ∙ other_day s Programme (call_earns t.price s kw) d _ _ (omega arith) inv.0 c.call.ensures w.in_default.is,
+        w.owed-is ∙ other_day s Programme (call_owes t.reduction t.price s kw) d _ _ (omega arith) inv.1 c.call.ensures w.in_default.is,
+        w.missed-is ∙ other_day s Programme (λ d c. cond (is_missed t.reduction (reduced s kw d c)) 1 0) d _ _ (omega arith) inv.2 c.call.ensures w.in_default.is,
+        omega (arith, w.earned-is, inv.3),
+        omega (arith, w.owed-is, inv.4),
+        omega (arith, w.missed-is, inv.5),
+      )
     ]
 
 pub returns : goal.returns

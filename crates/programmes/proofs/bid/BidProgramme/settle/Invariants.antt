@@ -1,4 +1,4 @@
-use Rattle.std.proofs.Common.{◌≡◌, ◌+◌, ◌*◌, ◌≤◌, cond}
+use Rattle.std.proofs.Common.{◌≡◌, ◌*◌, ◌≤◌, cond}
 use Rattle.books.specs.declared.call.CallKind.TheVariants.{Programme}
 use Rattle.programmes.specs.Bids.{call_earns, call_owes, is_missed, reduced}
 use Rattle.programmes.specs.Meterings.{site_of, demand_of}

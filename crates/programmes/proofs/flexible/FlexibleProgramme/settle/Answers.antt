@@ -1,10 +1,10 @@
-use Rattle.std.proofs.Common.{◌≡◌, ◌+◌, sym, ap, ◌∙◌, arith}
+use Rattle.std.proofs.Common.{sym, ◌∙◌, arith}
 use Rattle.books.specs.declared.call.CallKind.TheVariants.{Flexible}
 use Rattle.programmes.specs.Layers.{flexible_adds}
 use Rattle.programmes.specs.LayerLaws.{beneath}
 use Rattle.programmes.specs.Meterings.{site_of, demand_of}
 use Rattle.programmes.proofs.Asking.{metered_asked}
-use Rattle.programmes.proofs.MonthLoops.{before_month, called_day, other_day, behind_month}
+use Rattle.programmes.proofs.MonthLoops.{before_month, called_day, other_day}
 use Rattle.programmes.proofs.flexible.FlexibleProgramme.settle.Goals as goal
 use Rattle.programmes.proofs.flexible.FlexibleProgramme.settle.Goals.{in-Some, in_default}
 
@@ -21,9 +21,9 @@ loop-day-preserved g c =
     let d = c.loop-day.day in
     elim c.match-call.branch [
       | in-Some w ↦ (
-          called_day s Flexible adds d _ _ (omega arith) inv.0 c.call.ensures w.in-Some.call _ _ w.in-Some.is w.added-is w.added-added.ensures.value,
-          omega (arith, w.added-is, w.added-added.ensures.bound, inv.1),
-        )
+        called_day s Flexible adds d _ _ (omega arith) inv.0 c.call.ensures w.in-Some.call _ _ w.in-Some.is w.added-is w.added-added.ensures.value,
+        omega (arith, w.added-is, w.added-added.ensures.bound, inv.1),
+      )
       | in_default w ↦ (w.added-is ∙ other_day s Flexible adds d _ _ (omega arith) inv.0 c.call.ensures w.in_default.is, omega (arith, w.added-is, inv.1))
     ]
 

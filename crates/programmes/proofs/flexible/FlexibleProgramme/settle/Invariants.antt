@@ -1,4 +1,4 @@
-use Rattle.std.proofs.Common.{◌≡◌, ◌+◌, ◌*◌, ◌≤◌}
+use Rattle.std.proofs.Common.{◌≡◌, ◌*◌, ◌≤◌}
 use Rattle.books.specs.declared.call.CallKind.TheVariants.{Flexible}
 use Rattle.programmes.specs.Layers.{flexible_adds}
 use Rattle.programmes.specs.Meterings.{site_of, demand_of}
