@@ -1,8 +1,7 @@
 // The bid and the layer over it on worked figures, and what they refuse.
 use books::Call;
 use calendar::{Month, Refusal};
-use programmes::{Bid, BidTerms, Flexible, NoProgramme, Programme, Site};
-use readings::any_above;
+use programmes::{Bid, BidTerms, Flexible, Metered, NoProgramme, Programme, Site};
 use std::test::Fail;
 
 // Monday, 15 July 2024, by its number and counted from the month's first day; the slots of 10 to 12 hours are called.
@@ -26,13 +25,10 @@ fn settled<P: Programme>(
     lead: &[u32],
     readings: &[u32],
 ) -> Result<(u64, u64), Fail> {
-    let slots = 96 * usize::from(site.month.days());
-    if lead.len() != 2_976 || readings.len() != slots || any_above(lead) || any_above(readings) {
-        return Err(Fail::new("not full"));
-    }
-    match programme.refusal(site) {
+    let metered = Metered::new(*site, lead, readings)?;
+    match programme.refusal(&metered.site()) {
         Some(_) => Err(Fail::new("refused")),
-        None => Ok(programme.settle(site, lead, readings)),
+        None => Ok(programme.settle(&metered)),
     }
 }
 

@@ -7,30 +7,50 @@
 // regular capacity, K and price of the bid, year and month, the demand in kW outside calls, how many days right before the month are
 // off-peak, and then for each call its day of the month, kind, start, hours and the demand in kW in its slots.
 use books::{Call, OffPeakDay};
-use calendar::Month;
-use programmes::{Bid, BidTerms, Flexible, NoProgramme, Programme, Site};
-use readings::{SLOTS_A_DAY, any_above};
-use std::alloc::Global;
+use calendar::{Month, Refusal};
+use programmes::{Bid, BidTerms, Flexible, Metered, NoProgramme, Programme, Site};
+use readings::SLOTS_A_DAY;
+use std::alloc::{AllocError, AllocFailed, Global};
 
-// What a programme comes to: its settlement, or its refusal's number.
-#[derive(Clone, Copy)]
-enum Answer {
-    Settled(u64, u64),
-    Refused(u8),
+// Why a line comes to no settlement.
+enum Unsettled {
+    // it is refused
+    Refused(Refusal),
+    // the site cannot be metered
     NotFull,
+    // the program itself failed
+    Failed(anyhow::Error),
 }
 
-fn settled<P: Programme>(programme: &P, site: &Site<'_>, lead: &[u32], readings: &[u32]) -> Answer {
-    let slots = SLOTS_A_DAY * usize::from(site.month.days());
-    if lead.len() != 2_976 || readings.len() != slots || any_above(lead) || any_above(readings) {
-        return Answer::NotFull;
+impl From<Refusal> for Unsettled {
+    fn from(refusal: Refusal) -> Unsettled {
+        Unsettled::Refused(refusal)
     }
-    match programme.refusal(site) {
-        Some(refusal) => Answer::Refused(refusal.number()),
-        None => {
-            let (credit, extra) = programme.settle(site, lead, readings);
-            Answer::Settled(credit, extra)
-        }
+}
+
+impl From<AllocError> for Unsettled {
+    fn from(error: AllocError) -> Unsettled {
+        Unsettled::Failed(error.into())
+    }
+}
+
+impl<T: Drop> From<AllocFailed<T>> for Unsettled {
+    fn from(failed: AllocFailed<T>) -> Unsettled {
+        Unsettled::from(AllocError::from(failed))
+    }
+}
+
+// The credit and the extra of a programme.
+fn settled<P: Programme>(
+    programme: &P,
+    site: Site<'_>,
+    lead: &[u32],
+    readings: &[u32],
+) -> Result<(u64, u64), Unsettled> {
+    let metered = Metered::new(site, lead, readings).map_err(|_| Unsettled::NotFull)?;
+    match programme.refusal(&metered.site()) {
+        Some(refusal) => Err(Unsettled::Refused(refusal)),
+        None => Ok(programme.settle(&metered)),
     }
 }
 
@@ -43,34 +63,30 @@ fn numbers(heap: Global, line: &str) -> anyhow::Result<Vec<u32>> {
     Ok(all)
 }
 
-// The number at a place of a line, 0 where it ends before.
-fn at(line: &Vec<u32>, place: usize) -> u32 {
-    line.get(place).copied().unwrap_or(0)
+// The number at a place, 0 where there is none.
+fn at(numbers: &[u32], place: usize) -> u32 {
+    numbers.get(place).copied().unwrap_or(0)
 }
 
-// Where the calls of a line begin, and how many numbers each has.
+// Where the calls of a line begin, how many numbers each has, and how many are read.
 const CALLS_FROM: usize = 8;
 
 const CALL_NUMBERS: usize = 5;
 
+const MOST_CALLS: usize = 64;
+
 // Writes the demand of a call into its slots.
-fn draw(readings: &mut Vec<u32>, day: u32, call: Call, kw: u32) {
-    for slot in call.first_slot()..call.end_slot() {
-        let place = SLOTS_A_DAY
-            .wrapping_mul(day as usize)
-            .wrapping_add(usize::from(slot));
-        if place < readings.len() {
-            readings[place] = kw;
+fn draw(readings: &mut [u32], day: u32, call: Call, kw: u32) {
+    if let Some(slots) = readings.chunks_exact_mut(SLOTS_A_DAY).nth(day as usize) {
+        for slot in &mut slots[usize::from(call.first_slot())..usize::from(call.end_slot())] {
+            *slot = kw;
         }
     }
 }
 
 // What a line comes to.
-fn come_to(heap: Global, line: &Vec<u32>) -> anyhow::Result<Answer> {
-    let month = match Month::new(at(line, 4), at(line, 5)) {
-        Ok(month) => month,
-        Err(refusal) => return Ok(Answer::Refused(refusal.number())),
-    };
+fn come_to(heap: Global, line: &[u32]) -> Result<(u64, u64), Unsettled> {
+    let month = Month::new(at(line, 4), at(line, 5))?;
     let base = at(line, 6);
     let lead = vec![in heap; base; 2_976]?;
     let mut readings = vec![in heap; base; SLOTS_A_DAY * usize::from(month.days())]?;
@@ -81,24 +97,17 @@ fn come_to(heap: Global, line: &Vec<u32>) -> anyhow::Result<Answer> {
         }
     }
     let mut calls = Vec::new(heap);
-    for n in 0..64usize {
-        let from = CALLS_FROM + CALL_NUMBERS * n;
-        if from >= line.len() {
-            break;
-        }
-        let day = at(line, from).wrapping_sub(1);
-        match Call::new(
+    let called = line.get(CALLS_FROM..).unwrap_or(&[]);
+    for numbers in called.chunks(CALL_NUMBERS).take(MOST_CALLS) {
+        let day = at(numbers, 0).wrapping_sub(1);
+        let call = Call::new(
             month.first_day().wrapping_add(day),
-            at(line, from + 1),
-            at(line, from + 2),
-            at(line, from + 3),
-        ) {
-            Ok(call) => {
-                draw(&mut readings, day, call, at(line, from + 4));
-                calls.push(call)?;
-            }
-            Err(refusal) => return Ok(Answer::Refused(refusal.number())),
-        }
+            at(numbers, 1),
+            at(numbers, 2),
+            at(numbers, 3),
+        )?;
+        draw(&mut readings, day, call, at(numbers, 4));
+        calls.push(call)?;
     }
     let site = Site {
         regular: at(line, 1),
@@ -106,26 +115,24 @@ fn come_to(heap: Global, line: &Vec<u32>) -> anyhow::Result<Answer> {
         off_peak: &off_peak,
         calls: &calls,
     };
-    let terms = match BidTerms::new(at(line, 2), at(line, 3)) {
-        Ok(terms) => terms,
-        Err(refusal) => return Ok(Answer::Refused(refusal.number())),
-    };
-    Ok(match at(line, 0) {
-        0 => settled(&NoProgramme, &site, &lead, &readings),
-        1 => settled(&Bid::new(terms), &site, &lead, &readings),
-        2 => settled(&Flexible::new(Bid::new(terms)), &site, &lead, &readings),
-        _ => settled(&Flexible::new(NoProgramme), &site, &lead, &readings),
-    })
+    let bid = Bid::new(BidTerms::new(at(line, 2), at(line, 3))?);
+    match at(line, 0) {
+        0 => settled(&NoProgramme, site, &lead, &readings),
+        1 => settled(&bid, site, &lead, &readings),
+        2 => settled(&Flexible::new(bid), site, &lead, &readings),
+        _ => settled(&Flexible::new(NoProgramme), site, &lead, &readings),
+    }
 }
 
 fn main(rt: HostRuntime) -> anyhow::Result<()> {
     for line in rt.lines(rt.alloc()) {
         let line = line?;
         let line = numbers(rt.alloc(), line.as_str())?;
-        match come_to(rt.alloc(), &line)? {
-            Answer::Settled(credit, extra) => println!(rt; "{credit} {extra}")?,
-            Answer::Refused(number) => println!(rt; "refused {number}")?,
-            Answer::NotFull => println!(rt; "not full")?,
+        match come_to(rt.alloc(), &line) {
+            Ok((credit, extra)) => println!(rt; "{credit} {extra}")?,
+            Err(Unsettled::Refused(refusal)) => println!(rt; "refused {}", refusal.number())?,
+            Err(Unsettled::NotFull) => println!(rt; "not full")?,
+            Err(Unsettled::Failed(error)) => return Err(error),
         }
     }
     Ok(())

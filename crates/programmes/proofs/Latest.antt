@@ -1,92 +1,46 @@
--- The latest days before a day, as a loop finds them. Assumes nothing.
-use Rattle.std.proofs.Common.{◌≡◌, ℕ, zero, suc, ◌+◌, ◌-◌, ◌<◌, ◌≤◌, Bool, true, false, List, [], ◌∷◌, ◌++◌, length, get_or, take, set, sum_by, sym, refl, ap, ◌∙◌, subst, append_assoc, append-nil, arith}
-use Rattle.std.proofs.lemmas.List.{take_more_set}
-use Rattle.std.proofs.lemmas.List.Sums.{sum_by_more}
-use Rattle.std.proofs.lemmas.Bool.{cond-true, cond-false, cond_both}
+-- The latest days before a day, as a chain over them gives them. Assumes nothing.
+use Rattle.std.proofs.Common.{◌≡◌, ℕ, zero, suc, ◌+◌, ◌-◌, Bool, cond, List, [], ◌∷◌, length, take, filter, sym, refl, ap, ◌∙◌, subst, arith}
+use Rattle.std.proofs.iter.runs.Sources.{nat_range_steps_back}
+use Rattle.std.proofs.lemmas.Bool.{cond_both, cond-true, cond-false}
+use Rattle.std.proofs.lemmas.Iterator.{YieldsList}
+use Rattle.std.proofs.lemmas.Iterator.Consumers.{YieldsList-from_shown}
+use Rattle.std.specs.declared.iter.Rev.{Rev}
+use Rattle.std.specs.declared.ops.Range.{Range}
+use Rattle.std.specs.Iterator.Adapters.{rev_source, rev_steps}
 use Rattle.programmes.specs.Averages.{latest}
 
-module _ (ok : ℕ → Bool) where
-  -- one more is wanted, and the day before passes or not
-  pub latest_takes : (n d : ℕ) → 0 < n → 0 < d → ok (d - 1) ≡ true → latest n ok d ≡ (d - 1) ∷ latest (n - 1) ok (d - 1)
-  unfolding latest
-  latest_takes zero d hn hd e = absurd (omega arith)
-  latest_takes (suc n) zero hn hd e = absurd (omega arith)
-  latest_takes (suc n) (suc d) hn hd e =
-      let nd : suc d - 1 ≡ d = omega arith in
-      let nn : suc n - 1 ≡ n = omega arith in
-      cond-true (ok d) (d ∷ latest n ok d) (latest (suc n) ok d) (ap ok (sym nd) ∙ e)
-      ∙ ap (λ m. d ∷ latest m ok d) (sym nn)
-      ∙ ap (λ e. e ∷ latest (suc n - 1) ok e) (sym nd)
+-- n days from a on, the latest first
+abbrev pub days_back : ℕ → ℕ → List ℕ
+days_back a zero = []
+days_back a (suc n) = (a + n) ∷ days_back a n
 
-  pub latest_skips : (n d : ℕ) → 0 < n → 0 < d → ok (d - 1) ≡ false → latest n ok d ≡ latest n ok (d - 1)
-  unfolding latest
-  latest_skips zero d hn hd e = absurd (omega arith)
-  latest_skips (suc n) zero hn hd e = absurd (omega arith)
-  latest_skips (suc n) (suc d) hn hd e =
-      let nd : suc d - 1 ≡ d = omega arith in
-      cond-false (ok d) (d ∷ latest n ok d) (latest (suc n) ok d) (ap ok (sym nd) ∙ e)
-      ∙ ap (latest (suc n) ok) (sym nd)
+one_back : (a n b m x : ℕ) → n ≡ suc m → b ≡ a → x ≡ a + m → days_back a n ≡ x ∷ days_back b m
+one_back a n b m x e f g = ap (days_back a) e ∙ ap (λ y. y ∷ days_back a m) (sym g) ∙ ap (λ z. x ∷ days_back z m) (sym f)
 
-  -- none is wanted, or no day is left
-  pub latest_none : (d : ℕ) → latest 0 ok d ≡ []
-  unfolding latest
-  latest_none d = refl
+none_back : (a n : ℕ) → n ≡ 0 → length (days_back a n) ≡ 0
+none_back a n e = ap (λ m. length (days_back a m)) e
 
-  pub latest_start : (n : ℕ) → latest n ok 0 ≡ []
-  unfolding latest
-  latest_start zero = refl
-  latest_start (suc n) = refl
+-- a range of days from its end
+pub range_back : {s : Rev (Range ℕ)} (d : ℕ) → rev_source s ≡ record { start = 0; end = d } → YieldsList (rev_steps nat_range_steps_back) (λ x. x) s (days_back 0 d)
+range_back {s} d e =
+    subst (λ days. YieldsList (rev_steps nat_range_steps_back) (λ x. x) s days)
+    (ap (λ (r : Range ℕ). days_back r.start (r.end - r.start)) e ∙ ap (days_back 0) (omega arith))
+    (YieldsList-from_shown (rev_steps nat_range_steps_back) (λ x. x) (λ u. days_back (rev_source u).start ((rev_source u).end - (rev_source u).start))
+    (λ u t p. none_back _ _ p.1.0)
+    (λ u x t p. one_back (rev_source u).start ((rev_source u).end - (rev_source u).start) (rev_source t).start ((rev_source t).end - (rev_source t).start) x
+    (omega (arith, p.0, p.1.0, p.1.2))
+    p.0
+    (omega (arith, p.0, p.1.0, p.1.1, p.1.2)))
+    s)
 
-  -- each of them comes before
-  before_first : (d : ℕ) (es : List ℕ) → ((j : ℕ) → j < length es → get_or es j 0 < d) → (j : ℕ) → j < length (d ∷ es) → get_or (d ∷ es) j 0 < suc d
-  before_first d es others zero l = omega arith
-  before_first d es others (suc j) l = let p = others j (omega arith) in omega arith
-
-  pub latest_before : (n d k : ℕ) → k < length (latest n ok d) → get_or (latest n ok d) k 0 < d
-  unfolding latest
-  latest_before zero d k h = absurd (omega arith)
-  latest_before (suc n) zero k h = absurd (omega arith)
-  latest_before (suc n) (suc d) k h =
-      cond_both (ok d) (d ∷ latest n ok d) (latest (suc n) ok d) (λ es. k < length es → get_or es k 0 < suc d)
-      (λ _. before_first d (latest n ok d) (λ j. latest_before n d j) k)
-      (λ _ l. let p = latest_before (suc n) d k l in omega arith)
-      h
-
-  -- one turn: the days found so far, and those still to find
-  module _ (days : List ℕ) (count before : ℕ) (whole : List ℕ) (long : length days ≡ 5) (more : count < 5) (left : 0 < before) (inv : take count days ++ latest (5 - count) ok before ≡ whole) where
-    pub finds : ok (before - 1) ≡ true → take (count + 1) (set days count (before - 1)) ++ latest (5 - (count + 1)) ok (before - 1) ≡ whole
-    finds e =
-        let next : 5 - count - 1 ≡ 5 - (count + 1) = omega arith in
-        ap (λ ds. ds ++ latest (5 - (count + 1)) ok (before - 1)) (take_more_set days count (before - 1) (omega arith))
-        ∙ append_assoc (take count days) ((before - 1) ∷ []) (latest (5 - (count + 1)) ok (before - 1))
-        ∙ ap (λ m. take count days ++ ((before - 1) ∷ latest m ok (before - 1))) (sym next)
-        ∙ ap (λ ds. take count days ++ ds) (sym (latest_takes (5 - count) before (omega arith) left e))
-        ∙ inv
-
-    pub skips : ok (before - 1) ≡ false → take count days ++ latest (5 - count) ok (before - 1) ≡ whole
-    skips e = ap (λ ds. take count days ++ ds) (sym (latest_skips (5 - count) before (omega arith) left e)) ∙ inv
-
-  -- the end
-  pub all_found : (days : List ℕ) (count before : ℕ) (whole : List ℕ) → 5 ≤ count → take count days ++ latest (5 - count) ok before ≡ whole → take count days ≡ whole
-  all_found days count before whole full inv =
-      let none : 5 - count ≡ 0 = omega arith in
-      sym (append-nil (take count days)) ∙ ap (λ ds. take count days ++ ds) (sym (latest_none before)) ∙ ap (λ n. take count days ++ latest n ok before) (sym none) ∙ inv
-
-  pub none_left : (days : List ℕ) (count before : ℕ) (whole : List ℕ) → before ≡ 0 → take count days ++ latest (5 - count) ok before ≡ whole → take count days ≡ whole
-  none_left days count before whole start inv =
-      sym (append-nil (take count days)) ∙ ap (λ ds. take count days ++ ds) (sym (latest_start (5 - count))) ∙ ap (λ d. take count days ++ latest (5 - count) ok d) (sym start) ∙ inv
-
--- a loop over these days
-module _ (items es : List ℕ) (i : ℕ) (same : items ≡ es) where
-  pub item_before : (ok : ℕ → Bool) (n d : ℕ) → es ≡ latest n ok d → i < length items → get_or items i 0 < d
-  item_before ok n d e h =
-      let all = same ∙ e in
-      let P : List ℕ → Type 0 = λ ds. i < length ds → get_or ds i 0 < d in
-      subst P (sym all) (latest_before ok n d i) h
-
-  pub item_adds : (f : ℕ → ℕ) (sum more : ℕ) → i < length items → sum ≡ sum_by f (take i es) → more ≡ f (get_or items i 0) → sum + more ≡ sum_by f (take (i + 1) es)
-  item_adds f sum more h e m =
-      let l = ap length same in
-      let step = sum_by_more f es i 0 (omega arith) in
-      let at = ap (λ ds. f (get_or ds i 0)) same in
-      omega (arith, step, at, e, m)
+-- the latest n of them that pass
+pub latest_are : (n : ℕ) (ok : ℕ → Bool) (d : ℕ) → take n (filter ok (days_back 0 d)) ≡ latest n ok d
+unfolding latest
+latest_are zero ok d = refl
+latest_are (suc n) ok zero = refl
+latest_are (suc n) ok (suc d) =
+    let at : 0 + d ≡ d = omega arith in
+    ap (λ e. take (suc n) (filter ok (e ∷ days_back 0 d))) at
+    ∙ cond_both (ok d) (d ∷ filter ok (days_back 0 d)) (filter ok (days_back 0 d)) (λ es. take (suc n) es ≡ cond (ok d) (d ∷ latest n ok d) (latest (suc n) ok d))
+    (λ t. ap (λ es. d ∷ es) (latest_are n ok d) ∙ sym (cond-true (ok d) (d ∷ latest n ok d) (latest (suc n) ok d) t))
+    (λ f. latest_are (suc n) ok d ∙ sym (cond-false (ok d) (d ∷ latest n ok d) (latest (suc n) ok d) f))

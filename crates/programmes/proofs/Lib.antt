@@ -1,4 +1,7 @@
 pub mod Asking
-pub mod DaySlots
 pub mod Latest
 pub mod ListReadings
+pub mod MeteredDays
+pub mod Cases
+pub mod MonthLoops
+pub mod SlotSums

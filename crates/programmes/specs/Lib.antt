@@ -1,12 +1,13 @@
 pub mod Averages
 pub mod Bids
-pub mod LatestDays
 pub mod Layers
 pub mod Meanings
+pub mod Meterings
 pub mod Parts
 pub mod SiteModels
 pub mod Sites
 pub mod Sums
+pub mod Terms
 pub mod BidLaws
 pub mod Amounts
 pub mod SumLaws

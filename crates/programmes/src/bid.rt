@@ -1,11 +1,11 @@
 // The bid for peak reduction: calls of the programme are answered by a reduction below the five-day average.
-ghost use Rattle.std.specs.Prelude.{◌≡◌, ◌+◌, ◌*◌, ◌<◌, ◌≤◌, if◌then◌else◌};
-ghost use Rattle.programmes.specs.Bids.{bid, basic_credit, basic_rate, call_earns, call_owes, is_missed, reduced};
-ghost use Rattle.programmes.specs.SiteModels.{site_model};
-ghost use Rattle.programmes.specs.Sites.{Full, demand, for_call};
+ghost use Rattle.std.specs.Prelude.{◌≡◌, ◌+◌, ◌*◌, ◌≤◌};
+ghost use Rattle.programmes.specs.Bids.{bid, basic_credit, basic_rate, call_baseline, call_earns, call_owes, is_missed, reduced};
+ghost use Rattle.programmes.specs.Meterings.{site_of, demand_of};
 ghost use Rattle.programmes.specs.BidLaws.{bid_laws, bid_bare};
 
-use crate::average::{GRAINS_A_KW, average_in, five_day, quotient, slots_in, worth};
+use crate::average::{GRAINS_A_KW, quotient, slots_in, worth};
+use crate::metered::Metered;
 use crate::month_calls::{CallTotals, call_totals, length_not_taken, too_few_days};
 use crate::part::Part;
 use crate::programme::{BareProgramme, Programme};
@@ -25,17 +25,17 @@ const LEAST_REDUCTION: u64 = 20 * GRAINS_A_KW;
 // The least price in cents of what a missed call owes.
 const LEAST_EXTRA_PRICE: u32 = 200;
 
-#[derive(Clone, Copy)]
+#[derive(Clone, Copy, PartialEq, Eq, Debug)]
 pub struct Bid {
     terms: BidTerms,
 }
 
-// What a call comes to: what it earns and owes, in units, and 1 where it was missed.
+// What a call comes to: what it earns and owes, in units, and whether it was missed.
 #[derive(Clone, Copy)]
 struct Settled {
     earned: u64,
     owed: u64,
-    missed: u32,
+    missed: bool,
 }
 
 // The rate of the basic credit, in cents for each kW of the contract reduction.
@@ -71,16 +71,21 @@ fn basic_credit(reduction: u32, rate: u32, calls: u32, missed: u32) -> u64
     }
 }
 
-// A call's reduction in grains: its baseline less the average demand in its slots.
-fn call_reduction(site: &Site<'_>, lead: &[u32], readings: &[u32], day: u8, call: Call) -> u64
-    requires full { Full (site_model site.now) lead.now readings.now }
-    requires within { day < 31 + (site_model site.now).days }
-    ensures value { result ≡ reduced (site_model site.now) (demand lead.now readings.now) day call }
+// A call's baseline in grains: the five-day average of its slots.
+fn call_baseline(metered: &Metered<'_>, day: u8, call: Call) -> u64
+    ensures value { result ≡ call_baseline (site_of metered.now) (demand_of metered.now) day call }
     ensures bound { result ≤ 48000000 }
 {
-    let part = Part::Whole(call);
-    let average = average_in(site, lead, readings, &part, day);
-    let below = five_day(site, lead, readings, &part, day).saturating_sub(average);
+    metered.five_day(&Part::Whole(call), day)
+}
+
+// A call's reduction in grains: its baseline less the average demand in its slots.
+fn call_reduction(metered: &Metered<'_>, day: u8, call: Call) -> u64
+    ensures value { result ≡ reduced (site_of metered.now) (demand_of metered.now) day call }
+    ensures bound { result ≤ 48000000 }
+{
+    let average = metered.average_in(&Part::Whole(call), day);
+    let below = call_baseline(metered, day, call).saturating_sub(average);
     if below < LEAST_REDUCTION { 0 } else { below }
 }
 
@@ -93,24 +98,15 @@ impl Bid {
     }
 
     // What a call of a day comes to.
-    fn settle_call(
-        &self,
-        site: &Site<'_>,
-        lead: &[u32],
-        readings: &[u32],
-        day: u8,
-        call: Call,
-    ) -> Settled
-        requires full { Full (site_model site.now) lead.now readings.now }
-        requires within { day < 31 + (site_model site.now).days }
-        ensures earned { result.earned ≡ call_earns self.now.terms.price (site_model site.now) (demand lead.now readings.now) day call }
-        ensures owed { result.owed ≡ call_owes self.now.terms.reduction self.now.terms.price (site_model site.now) (demand lead.now readings.now) day call }
-        ensures missed { result.missed ≡ (if is_missed self.now.terms.reduction (reduced (site_model site.now) (demand lead.now readings.now) day call) then 1 else 0) }
-        ensures bounds { (result.earned ≤ 3840000000) × (result.owed ≤ 3840000000) × (result.missed ≤ 1) }
+    fn settle_call(&self, metered: &Metered<'_>, day: u8, call: Call) -> Settled
+        ensures earned { result.earned ≡ call_earns self.now.terms.price (site_of metered.now) (demand_of metered.now) day call }
+        ensures owed { result.owed ≡ call_owes self.now.terms.reduction self.now.terms.price (site_of metered.now) (demand_of metered.now) day call }
+        ensures missed { result.missed ≡ is_missed self.now.terms.reduction (reduced (site_of metered.now) (demand_of metered.now) day call) }
+        ensures bounds { (result.earned ≤ 3840000000) × (result.owed ≤ 3840000000) }
     {
         let slots = slots_in(&Part::Whole(call));
         let contract = u64::from(self.terms.reduction()) * GRAINS_A_KW;
-        let reduction = call_reduction(site, lead, readings, day, call);
+        let reduction = call_reduction(metered, day, call);
         let price = self.terms.price();
         Settled {
             earned: worth(reduction, slots, u64::from(price)),
@@ -119,33 +115,7 @@ impl Bid {
                 slots,
                 u64::from(price.max(LEAST_EXTRA_PRICE)),
             ),
-            missed: if reduction < contract { 1 } else { 0 },
-        }
-    }
-
-    // The same of the call of a day, if there is one.
-    fn settle_day(
-        &self,
-        site: &Site<'_>,
-        lead: &[u32],
-        readings: &[u32],
-        day: u8,
-        call: Option<Call>,
-    ) -> Settled
-        requires full { Full (site_model site.now) lead.now readings.now }
-        requires within { day < 31 + (site_model site.now).days }
-        ensures earned { result.earned ≡ for_call call (call_earns self.now.terms.price (site_model site.now) (demand lead.now readings.now) day) }
-        ensures owed { result.owed ≡ for_call call (call_owes self.now.terms.reduction self.now.terms.price (site_model site.now) (demand lead.now readings.now) day) }
-        ensures missed { result.missed ≡ for_call call (λ c. (if is_missed self.now.terms.reduction (reduced (site_model site.now) (demand lead.now readings.now) day c) then 1 else 0)) }
-        ensures bounds { (result.earned ≤ 3840000000) × (result.owed ≤ 3840000000) × (result.missed ≤ 1) }
-    {
-        match call {
-            Some(c) => self.settle_call(site, lead, readings, day, c),
-            None => Settled {
-                earned: 0,
-                owed: 0,
-                missed: 0,
-            },
+            missed: reduction < contract,
         }
     }
 }
@@ -182,9 +152,10 @@ impl Programme for Bid {
         site.call(CallKind::Programme, day)
     }
 
-    fn baseline(&self, site: &Site<'_>, lead: &[u32], readings: &[u32], day: u8) -> u64 {
-        match site.call(CallKind::Programme, day) {
-            Some(call) => five_day(site, lead, readings, &Part::Whole(call), day),
+    fn baseline(&self, metered: &Metered<'_>, day: u8) -> u64 {
+        // A `match`, since the proof doesn't learn what a closure over a metered site answers to `map_or`.
+        match metered.site.call(CallKind::Programme, day) {
+            Some(call) => call_baseline(metered, day, call),
             None => 0,
         }
     }
@@ -197,17 +168,18 @@ impl Programme for Bid {
         self.terms.price()
     }
 
-    fn settle(&self, site: &Site<'_>, lead: &[u32], readings: &[u32]) -> (u64, u64) {
+    fn settle(&self, metered: &Metered<'_>) -> (u64, u64) {
+        let site = &metered.site;
         let mut earned = 0;
         let mut owed = 0;
         let mut missed = 0;
-        for k in 0..site.month.days() {
-            let day = LEAD_DAYS + k;
-            let call = site.call(CallKind::Programme, day);
-            let settled = self.settle_day(site, lead, readings, day, call);
-            earned += settled.earned;
-            owed += settled.owed;
-            missed += settled.missed;
+        for day in LEAD_DAYS..site.end_day() {
+            if let Some(call) = site.call(CallKind::Programme, day) {
+                let settled = self.settle_call(metered, day, call);
+                earned += settled.earned;
+                owed += settled.owed;
+                missed += u32::from(settled.missed);
+            }
         }
         let totals = call_totals(site);
         let basic = basic_credit(

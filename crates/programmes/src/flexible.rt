@@ -1,11 +1,11 @@
 // The flexible layer: calls of its own kind, over any bare programme. A layer is no bare programme, so that none stands over another.
 ghost use Rattle.std.specs.Prelude.{◌≡◌, ◌+◌, ◌<◌, ◌≤◌, None};
 ghost use Rattle.programmes.specs.Layers.{flexible, shared_credit, apart_credit, flexible_adds};
-ghost use Rattle.programmes.specs.SiteModels.{site_model};
-ghost use Rattle.programmes.specs.Sites.{Full, demand, for_call};
+ghost use Rattle.programmes.specs.Meterings.{site_of, demand_of};
 ghost use Rattle.programmes.specs.LayerLaws.{flexible_laws};
 
-use crate::average::{GRAINS_A_KW, average_in, five_day, slots_in, worth};
+use crate::average::{GRAINS_A_KW, slots_in, worth};
+use crate::metered::Metered;
 use crate::month_calls::too_few_days;
 use crate::part::Part;
 use crate::programme::{BareProgramme, Programme};
@@ -16,7 +16,7 @@ use calendar::Refusal;
 // The price past K of the layer, in cents.
 const PRICE: u32 = 1_000;
 
-#[derive(Clone, Copy)]
+#[derive(Clone, Copy, PartialEq, Eq, Debug)]
 pub struct Flexible<P> {
     lower: P,
 }
@@ -30,28 +30,17 @@ impl<P: BareProgramme> Flexible<P> {
     }
 
     // What a call adds in the slots that it shares with the lower programme's own call of the day.
-    fn shared_credit(
-        &self,
-        site: &Site<'_>,
-        lead: &[u32],
-        readings: &[u32],
-        day: u8,
-        call: Call,
-    ) -> u64
-        requires full { Full (site_model site.now) lead.now readings.now }
-        requires granted { (P.Programme.meaning self.now.lower).refusal (site_model site.now) ≡ None }
+    fn shared_credit(&self, metered: &Metered<'_>, day: u8, call: Call) -> u64
+        requires granted { (P.Programme.meaning self.now.lower).refusal (site_of metered.now) ≡ None }
         requires from { 31 ≤ day }
-        requires within { day < 31 + (site_model site.now).days }
-        ensures value { result ≡ shared_credit (P.Programme.meaning self.now.lower) (site_model site.now) (demand lead.now readings.now) day call }
+        requires within { day < 31 + (site_of metered.now).days }
+        ensures value { result ≡ shared_credit (P.Programme.meaning self.now.lower) (site_of metered.now) (demand_of metered.now) day call }
         ensures bound { result ≤ 3840000000 }
     {
-        let part = Part::Shared(call, self.lower.own_call(site, day));
+        let part = Part::Shared(call, self.lower.own_call(&metered.site, day));
         let contract = u64::from(self.lower.reduction()) * GRAINS_A_KW;
-        let average = average_in(site, lead, readings, &part, day);
-        let reduction = self
-            .lower
-            .baseline(site, lead, readings, day)
-            .saturating_sub(average);
+        let average = metered.average_in(&part, day);
+        let reduction = self.lower.baseline(metered, day).saturating_sub(average);
         let price = PRICE.saturating_sub(self.lower.price_past());
         worth(
             reduction.saturating_sub(contract),
@@ -61,48 +50,25 @@ impl<P: BareProgramme> Flexible<P> {
     }
 
     // What it adds in its other slots.
-    fn apart_credit(
-        &self,
-        site: &Site<'_>,
-        lead: &[u32],
-        readings: &[u32],
-        day: u8,
-        call: Call,
-    ) -> u64
-        requires full { Full (site_model site.now) lead.now readings.now }
-        requires within { day < 31 + (site_model site.now).days }
-        ensures value { result ≡ apart_credit (P.Programme.meaning self.now.lower) (site_model site.now) (demand lead.now readings.now) day call }
+    fn apart_credit(&self, metered: &Metered<'_>, day: u8, call: Call) -> u64
+        ensures value { result ≡ apart_credit (P.Programme.meaning self.now.lower) (site_of metered.now) (demand_of metered.now) day call }
         ensures bound { result ≤ 3840000000 }
     {
-        let part = Part::Apart(call, self.lower.own_call(site, day));
-        let average = average_in(site, lead, readings, &part, day);
-        let reduction = five_day(site, lead, readings, &part, day).saturating_sub(average);
+        let part = Part::Apart(call, self.lower.own_call(&metered.site, day));
+        let average = metered.average_in(&part, day);
+        let reduction = metered.five_day(&part, day).saturating_sub(average);
         worth(reduction, slots_in(&part), u64::from(PRICE))
     }
 
-    // What the call of a day adds to the credit, if there is one.
-    fn added(
-        &self,
-        site: &Site<'_>,
-        lead: &[u32],
-        readings: &[u32],
-        day: u8,
-        call: Option<Call>,
-    ) -> u64
-        requires full { Full (site_model site.now) lead.now readings.now }
-        requires granted { (P.Programme.meaning self.now.lower).refusal (site_model site.now) ≡ None }
+    // What a call adds to the credit.
+    fn added(&self, metered: &Metered<'_>, day: u8, call: Call) -> u64
+        requires granted { (P.Programme.meaning self.now.lower).refusal (site_of metered.now) ≡ None }
         requires from { 31 ≤ day }
-        requires within { day < 31 + (site_model site.now).days }
-        ensures value { result ≡ for_call call (flexible_adds (P.Programme.meaning self.now.lower) (site_model site.now) (demand lead.now readings.now) day) }
+        requires within { day < 31 + (site_of metered.now).days }
+        ensures value { result ≡ flexible_adds (P.Programme.meaning self.now.lower) (site_of metered.now) (demand_of metered.now) day call }
         ensures bound { result ≤ 7680000000 }
     {
-        match call {
-            Some(c) => {
-                self.shared_credit(site, lead, readings, day, c)
-                    + self.apart_credit(site, lead, readings, day, c)
-            }
-            None => 0,
-        }
+        self.shared_credit(metered, day, call) + self.apart_credit(metered, day, call)
     }
 }
 
@@ -119,25 +85,16 @@ impl<P: BareProgramme> Programme for Flexible<P> {
     }
 
     fn refusal(&self, site: &Site<'_>) -> Option<Refusal> {
-        let below = self.lower.refusal(site);
-        match below {
-            Some(_) => below,
-            None => {
-                if too_few_days(site, CallKind::Flexible) {
-                    Some(Refusal::TooFewDaysToAverage)
-                } else {
-                    None
-                }
-            }
-        }
+        let own = too_few_days(site, CallKind::Flexible).then_some(Refusal::TooFewDaysToAverage);
+        self.lower.refusal(site).or(own)
     }
 
     fn own_call(&self, site: &Site<'_>, day: u8) -> Option<Call> {
         self.lower.own_call(site, day)
     }
 
-    fn baseline(&self, site: &Site<'_>, lead: &[u32], readings: &[u32], day: u8) -> u64 {
-        self.lower.baseline(site, lead, readings, day)
+    fn baseline(&self, metered: &Metered<'_>, day: u8) -> u64 {
+        self.lower.baseline(metered, day)
     }
 
     fn reduction(&self) -> u32 {
@@ -148,13 +105,14 @@ impl<P: BareProgramme> Programme for Flexible<P> {
         PRICE
     }
 
-    fn settle(&self, site: &Site<'_>, lead: &[u32], readings: &[u32]) -> (u64, u64) {
-        let (credit, extra) = self.lower.settle(site, lead, readings);
+    fn settle(&self, metered: &Metered<'_>) -> (u64, u64) {
+        let (credit, extra) = self.lower.settle(metered);
+        let site = &metered.site;
         let mut added = 0;
-        for k in 0..site.month.days() {
-            let day = LEAD_DAYS + k;
-            let call = site.call(CallKind::Flexible, day);
-            added += self.added(site, lead, readings, day, call);
+        for day in LEAD_DAYS..site.end_day() {
+            if let Some(call) = site.call(CallKind::Flexible, day) {
+                added += self.added(metered, day, call);
+            }
         }
         (credit + added, extra)
     }

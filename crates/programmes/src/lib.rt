@@ -4,6 +4,7 @@
 pub mod average;
 pub mod bid;
 pub mod flexible;
+pub mod metered;
 pub mod month_calls;
 pub mod no_programme;
 pub mod part;
@@ -14,6 +15,7 @@ pub mod terms;
 pub use average::GRAINS_A_KW;
 pub use bid::Bid;
 pub use flexible::Flexible;
+pub use metered::Metered;
 pub use no_programme::NoProgramme;
 pub use part::Part;
 pub use programme::{BareProgramme, Programme};

@@ -2,12 +2,13 @@
 ghost use Rattle.programmes.specs.Bids.{no_programme};
 ghost use Rattle.programmes.specs.BidLaws.{no_programme_laws, no_programme_bare};
 
+use crate::metered::Metered;
 use crate::programme::{BareProgramme, Programme};
 use crate::site::Site;
 use books::{Call, CallKind};
 use calendar::Refusal;
 
-#[derive(Clone, Copy)]
+#[derive(Clone, Copy, PartialEq, Eq, Debug)]
 pub struct NoProgramme;
 
 impl Programme for NoProgramme {
@@ -27,7 +28,7 @@ impl Programme for NoProgramme {
         None
     }
 
-    fn baseline(&self, _site: &Site<'_>, _lead: &[u32], _readings: &[u32], _day: u8) -> u64 {
+    fn baseline(&self, _metered: &Metered<'_>, _day: u8) -> u64 {
         0
     }
 
@@ -39,7 +40,7 @@ impl Programme for NoProgramme {
         0
     }
 
-    fn settle(&self, _site: &Site<'_>, _lead: &[u32], _readings: &[u32]) -> (u64, u64) {
+    fn settle(&self, _metered: &Metered<'_>) -> (u64, u64) {
         (0, 0)
     }
 }

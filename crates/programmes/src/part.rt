@@ -1,7 +1,6 @@
 // A set of slots of a day: those of a call, or a part of them.
 ghost use Rattle.std.specs.Prelude.{◌≡◌};
 ghost use Rattle.programmes.specs.Parts.{holds};
-ghost use Rattle.programmes.specs.Sites.{in_call};
 
 use books::Call;
 
@@ -15,16 +14,6 @@ pub enum Part {
     Apart(Call, Option<Call>),
 }
 
-// Whether a slot is one of a call's, if there is a call.
-fn in_call(call: Option<Call>, slot: u8) -> bool
-    ensures { result ≡ in_call call slot }
-{
-    match call {
-        Some(c) => c.covers(slot),
-        None => false,
-    }
-}
-
 impl Part {
     // Whether a slot belongs to this part.
     pub fn holds(&self, slot: u8) -> bool
@@ -32,8 +21,12 @@ impl Part {
     {
         match self {
             Part::Whole(call) => call.covers(slot),
-            Part::Shared(call, other) => call.covers(slot) && in_call(*other, slot),
-            Part::Apart(call, other) => call.covers(slot) && !in_call(*other, slot),
+            Part::Shared(call, other) => {
+                call.covers(slot) && other.is_some_and(|other| other.covers(slot))
+            }
+            Part::Apart(call, other) => {
+                call.covers(slot) && !other.is_some_and(|other| other.covers(slot))
+            }
         }
     }
 }

@@ -1,6 +1,6 @@
 // The site of a contract: its regular capacity, its month, and what is booked. Days are counted from the first of the lead, the
 // 31 days before the month.
-ghost use Rattle.std.specs.Prelude.{◌≡◌};
+ghost use Rattle.std.specs.Prelude.{◌≡◌, ◌+◌, ◌≤◌};
 ghost use Rattle.programmes.specs.Sites.{day_number, call_at, eligible};
 ghost use Rattle.programmes.specs.SiteModels.{site_model};
 
@@ -19,6 +19,14 @@ pub struct Site<'a> {
 }
 
 impl Site<'_> {
+    // The day right behind the month.
+    pub(crate) fn end_day(&self) -> u8
+        ensures value { result ≡ 31 + (site_model self.now).days }
+        ensures short { result ≤ 62 }
+    {
+        LEAD_DAYS + self.month.days()
+    }
+
     // The number of a day in the calendar.
     fn day_number(&self, day: u8) -> u32
         ensures { result ≡ day_number (site_model self.now) day }
@@ -38,12 +46,8 @@ impl Site<'_> {
         ensures { result ≡ eligible (site_model self.now) day }
     {
         let number = self.day_number(day);
-        match DayKind::of(number, is_off_peak(self.off_peak, number)) {
-            DayKind::Working => {
-                call_on(self.calls, number, CallKind::Programme).is_none()
-                    && call_on(self.calls, number, CallKind::Flexible).is_none()
-            }
-            _ => false,
-        }
+        DayKind::of(number, is_off_peak(self.off_peak, number)) == DayKind::Working
+            && call_on(self.calls, number, CallKind::Programme).is_none()
+            && call_on(self.calls, number, CallKind::Flexible).is_none()
     }
 }

@@ -1,6 +1,7 @@
 // How a bid's terms are made, and what they say.
-ghost use Rattle.std.specs.Prelude.{◌≡◌, ◌≤◌, Some, None, Ok, Err};
+ghost use Rattle.std.specs.Prelude.{◌≡◌, ◌≤◌, Some, MatchResult};
 ghost use Rattle.programmes.specs.Bids.{terms_refusal};
+ghost use Rattle.programmes.specs.Terms.{AreTerms};
 
 use super::BidTerms;
 use calendar::Refusal;
@@ -8,7 +9,7 @@ use calendar::Refusal;
 impl BidTerms {
     // The terms of this contract reduction at this price.
     pub fn new(reduction: u32, price: u32) -> Result<BidTerms, Refusal>
-        ensures { elim result [ Ok t ↦ (terms_refusal reduction price ≡ None) × (t.reduction ≡ reduction) × (t.price ≡ price) | Err e ↦ terms_refusal reduction price ≡ Some e ] }
+        ensures { MatchResult result (λ t. AreTerms t reduction price) (λ e. terms_refusal reduction price ≡ Some e) }
     {
         if reduction < 20 || reduction > 40_000 {
             return Err(Refusal::ReductionOutOfRange);

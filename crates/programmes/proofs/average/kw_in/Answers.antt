@@ -1,21 +1,40 @@
-use Rattle.std.proofs.Common.{◌≡◌, ℕ, ◌+◌, get_or, sym, ap, ◌∙◌, arith}
+use Rattle.std.proofs.Common.{◌≡◌, ℕ, ◌*◌, ◌^◌, ◌≤◌, get_or, filter, sym, refl, ◌∙◌, subst, rules, tests, arith}
+use Rattle.std.specs.List.{range_with_len, zip}
+use Rattle.std.proofs.lemmas.Iterator.{YieldsList-from_range, YieldsList-from_slice, YieldsList-from_zip, YieldsList-from_map}
+use Rattle.std.proofs.lemmas.Iterator.Consumers.{YieldsList-at, YieldsList-from_filter, sum_by_from_yields_List, fits_by_from_yields_list}
+use Rattle.programmes.specs.Averages.{kw_in}
 use Rattle.programmes.specs.Parts.{holds}
-use Rattle.programmes.proofs.DaySlots.{counts, passes}
-use Rattle.programmes.specs.SumLaws.{sum_none}
+use Rattle.programmes.proofs.SlotSums.{day_sum, day_fits}
 use Rattle.programmes.proofs.average.kw_in.Goals as goal
-use Rattle.programmes.proofs.average.kw_in.Goals.{then-holds, else-holds}
 
-pub loop-slot-init : goal.loop-slot-init
-loop-slot-init c = (sym (sum_none _), omega arith)
+pub sum-requires-clause-fits : goal.sum-requires-clause-fits
+sum-requires-clause-fits c =
+    let set = holds c.args.part.now in
+    let all = filter (λ (p : ℕ × ℕ). set p.0) (zip (range_with_len 0 96) c.args.day.now) in
+    let total = day_sum set c.args.day.now in
+    let fits = day_fits set c.args.day.now c.type_inv.day in
+    fits_by_from_yields_list (λ (p : ℕ × ℕ). p.1) all c.map.result (2 ^ 64)
+    (YieldsList-from_map _ (λ (p : ℕ × ℕ). p.1)
+    (YieldsList-at c.map.ensures.source (YieldsList-from_filter _ (λ (p : ℕ × ℕ). set p.0)
+    (YieldsList-at c.filter.ensures.source (YieldsList-from_zip (YieldsList-from_range 0 96 96 c.zip.ensures.first refl) (YieldsList-from_slice c.args.day.now c.zip.ensures.second.0)))
+    c.filter.ensures.closure
+    (λ x r q k. search (rules, tests))))
+    c.map.ensures.closure
+    (λ x r q k. search (rules, tests)))
+    (omega (arith, total, fits))
 
-pub loop-slot-preserved : goal.loop-slot-preserved
-loop-slot-preserved c =
-    let day : ℕ → ℕ = λ slot. get_or c.args.day.now slot 0 in
-    let low = c.requires.low c.loop-slot.slot c.loop-slot-test.true in
-    elim c.if-holds.branch [
-      | then-holds w ↦
-          let at : c.if-holds.sum ≡ c.loop-slot.sum + day c.loop-slot.slot = w.sum-is ∙ ap (λ i. c.loop-slot.sum + day i) w.from.ensures in
-          (at ∙ counts (holds c.args.part.now) day _ _ c.loop-slot.invariant.0 (sym c.holds.ensures ∙ w.if-holds.true), omega (arith, at, low, c.loop-slot.invariant.1))
-      | else-holds w ↦
-          (w.sum-is ∙ passes (holds c.args.part.now) day _ _ c.loop-slot.invariant.0 (sym c.holds.ensures ∙ w.if-holds.false), omega (arith, w.sum-is, c.loop-slot.invariant.1))
-    ]
+pub returns : goal.returns
+returns c =
+    let set = holds c.args.part.now in
+    let all = filter (λ (p : ℕ × ℕ). set p.0) (zip (range_with_len 0 96) c.args.day.now) in
+    let value : c.sum.result ≡ kw_in set (λ slot. get_or c.args.day.now slot 0) =
+    sum_by_from_yields_List (λ (p : ℕ × ℕ). p.1) all c.map.result _ c.sum.ensures.ran
+    (YieldsList-from_map _ (λ (p : ℕ × ℕ). p.1)
+    (YieldsList-at c.map.ensures.source (YieldsList-from_filter _ (λ (p : ℕ × ℕ). set p.0)
+    (YieldsList-at c.filter.ensures.source (YieldsList-from_zip (YieldsList-from_range 0 96 96 c.zip.ensures.first refl) (YieldsList-from_slice c.args.day.now c.zip.ensures.second.0)))
+    c.filter.ensures.closure
+    (λ x r q k. search (rules, tests))))
+    c.map.ensures.closure
+    (λ x r q k. search (rules, tests)))
+    ∙ day_sum set c.args.day.now in
+    record { value = value; bound = subst (λ n. n ≤ 96 * 2 ^ 32) (sym value) (day_fits set c.args.day.now c.type_inv.day) }

@@ -1,18 +1,12 @@
-use Rattle.std.proofs.Common.{sym, ◌∙◌, arith}
+use Rattle.std.proofs.Common.{refl, ◌∙◌, rules, tests}
+use Rattle.std.proofs.lemmas.Iterator.{YieldsList-from_range}
+use Rattle.std.proofs.lemmas.Iterator.Consumers.{YieldsList-from_filter, count_from_yields_List}
 use Rattle.programmes.specs.Parts.{holds}
-use Rattle.programmes.proofs.DaySlots.{counts, passes}
-use Rattle.programmes.specs.SumLaws.{sum_none}
+use Rattle.programmes.proofs.SlotSums.{day_count}
 use Rattle.programmes.proofs.average.slots_in.Goals as goal
-use Rattle.programmes.proofs.average.slots_in.Goals.{then-holds, else-holds}
 
-pub loop-slot-init : goal.loop-slot-init
-loop-slot-init c = (sym (sum_none _), omega arith)
-
-pub loop-slot-preserved : goal.loop-slot-preserved
-loop-slot-preserved c =
-    elim c.if-holds.branch [
-      | then-holds w ↦
-          (w.count-is ∙ counts (holds c.args.part.now) (λ _. 1) _ _ c.loop-slot.invariant.0 (sym c.holds.ensures ∙ w.if-holds.true), omega (arith, w.count-is, c.loop-slot.invariant.1))
-      | else-holds w ↦
-          (w.count-is ∙ passes (holds c.args.part.now) (λ _. 1) _ _ c.loop-slot.invariant.0 (sym c.holds.ensures ∙ w.if-holds.false), omega (arith, w.count-is, c.loop-slot.invariant.1))
-    ]
+pub returns-clause-value : goal.returns-clause-value
+returns-clause-value c =
+    count_from_yields_List c.filter.result _ c.count.ensures.ran
+    (YieldsList-from_filter _ (holds c.args.part.now) (YieldsList-from_range 0 96 96 (cc) refl) c.filter.ensures.closure (λ x r q k. search (rules, tests)))
+    ∙ day_count (holds c.args.part.now)

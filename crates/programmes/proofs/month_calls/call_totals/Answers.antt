@@ -1,18 +1,46 @@
-use Rattle.std.proofs.Common.{sym, arith}
+use Rattle.std.proofs.Common.{◌≡◌, ◌+◌, sym, refl, ◌∙◌, arith}
 use Rattle.books.specs.declared.call.CallKind.TheVariants.{Programme}
 use Rattle.programmes.specs.SiteModels.{site_model}
-use Rattle.programmes.specs.CallSums.{day_adds}
-use Rattle.programmes.specs.SumLaws.{sum_none}
+use Rattle.programmes.proofs.MonthLoops.{before_month, called_day, other_day, behind_month}
 use Rattle.programmes.proofs.month_calls.call_totals.Goals as goal
+use Rattle.programmes.proofs.month_calls.call_totals.Goals.{in-Some, in_default}
 
-pub loop-k-init : goal.loop-k-init
-loop-k-init c = (sym (sum_none _), sym (sum_none _), omega arith, omega arith)
+pub loop-day-init : goal.loop-day-init
+loop-day-init c =
+    let s = site_model c.args.site.now in
+    (sym (before_month s Programme (λ _ _. 1)), sym (before_month s Programme (λ _ c. c.hours)), omega arith, omega arith)
 
-pub loop-k-preserved : goal.loop-k-preserved
-loop-k-preserved c =
-    let s = site_model c.args.site.now in (
-      day_adds s Programme (λ _ _. 1) c.loop-k.k _ _ _ c.loop-k.invariant.0 c.one_if-count.ensures.value c.call-call.ensures,
-      day_adds s Programme (λ _ c. c.hours) c.loop-k.k _ _ _ c.loop-k.invariant.1 c.hours_if-hours.ensures.value c.call-call.ensures,
-      omega (arith, c.loop-k.invariant.2, c.one_if-count.ensures.few),
-      omega (arith, c.loop-k.invariant.3, c.hours_if-hours.ensures.few),
-    )
+pub loop-day-preserved : goal.loop-day-preserved
+loop-day-preserved c =
+    let s = site_model c.args.site.now in
+    let d = c.loop-day.day in
+    let inv = c.loop-day.invariant in
+    let counted = inv.2 in
+    let lasting = inv.3 in
+    elim c.match-call.branch [
+      | in-Some w ↦ (
+        called_day s Programme (λ _ _. 1) d _ _ (omega arith) inv.0 c.call.ensures w.in-Some.call 1 _ w.in-Some.is w.count-is refl,
+        called_day s Programme (λ _ c. c.hours) d _ _ (omega arith) inv.1 c.call.ensures w.in-Some.call _ _ w.in-Some.is w.hours-is (w.from-hours.ensures ∙ w.hours.ensures),
+        omega (arith, w.count-is),
+        omega (arith, w.hours-is, w.from-hours.ensures, w.hours.ensures, w.in-Some.call.hours_to),
+      )
+      | in_default w ↦ (
+        w.count-is ∙ other_day s Programme (λ _ _. 1) d _ _ (omega arith) inv.0 c.call.ensures w.in_default.is,
+        w.hours-is ∙ other_day s Programme (λ _ c. c.hours) d _ _ (omega arith) inv.1 c.call.ensures w.in_default.is,
+        omega (arith, w.count-is),
+        omega (arith, w.hours-is),
+      )
+    ]
+
+pub returns : goal.returns
+returns c =
+    let s = site_model c.args.site.now in
+    let d = c.loop-day.day in
+    let inv = c.loop-day.invariant in
+    let kept = inv.2 in
+    let end : d ≡ 31 + s.days = omega (arith, c.loop-day.auto.day-end, c.loop-day-test.false, c.end_day-day-end.ensures.value) in
+    record {
+      count = behind_month s Programme (λ _ _. 1) d _ end inv.0;
+      hours = behind_month s Programme (λ _ c. c.hours) d _ end inv.1;
+      few = omega (arith, kept, end, c.end_day-day-end.ensures.short, c.end_day-day-end.ensures.value);
+    }

@@ -1,17 +1,15 @@
-use Rattle.std.proofs.Common.{not, ◌||◌, eqb, arith}
+use Rattle.std.proofs.Common.{ℕ, Bool, ◌+◌, not, ◌||◌, ◌==◌, refl, ◌∙◌, rules, tests, arith}
+use Rattle.std.proofs.lemmas.Iterator.{YieldsList-from_range}
+use Rattle.std.proofs.lemmas.Iterator.Search.{any_from_yields_List}
 use Rattle.books.specs.declared.call.CallKind.TheVariants.{Programme}
+use Rattle.programmes.specs.Sites.{call_at, if_call}
 use Rattle.programmes.specs.SiteModels.{site_model}
-use Rattle.programmes.specs.CallSums.{day_finds, day_passes}
-use Rattle.programmes.specs.SumLaws.{some_none}
+use Rattle.programmes.proofs.MonthLoops.{any_day}
 use Rattle.programmes.proofs.month_calls.length_not_taken.Goals as goal
 
-pub loop-k-init : goal.loop-k-init
-loop-k-init c = some_none _
-
-pub returns-then-is_length_not_taken : goal.returns-then-is_length_not_taken
-returns-then-is_length_not_taken c =
-    day_finds (site_model c.args.site.now) Programme (λ _ c. not (eqb c.hours 2 || eqb c.hours 4)) c.loop-k.k _ _ (omega (arith, c.loop-k-test.true, c.days-k-end.ensures.value)) c.is_length_not_taken.ensures c.call.ensures c.if-is_length_not_taken.true
-
-pub loop-k-preserved : goal.loop-k-preserved
-loop-k-preserved c =
-    day_passes (site_model c.args.site.now) Programme (λ _ c. not (eqb c.hours 2 || eqb c.hours 4)) c.loop-k.k _ _ c.loop-k.invariant c.is_length_not_taken.ensures c.call.ensures c.if-is_length_not_taken.false
+pub returns : goal.returns
+returns c =
+    let s = site_model c.args.site.now in
+    let test : ℕ → Bool = λ d. if_call (call_at s Programme d) (λ call. not (call.hours == 2 || call.hours == 4)) in
+    any_from_yields_List test _ _ _ c.any.ensures.ran (YieldsList-from_range 31 (31 + s.days) s.days (search rules) (omega arith)) (λ x r q k. search (rules, tests))
+    ∙ any_day test (λ k. test (31 + k)) 31 s.days (λ k. refl)

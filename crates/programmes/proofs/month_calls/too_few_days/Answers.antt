@@ -1,19 +1,16 @@
-use Rattle.std.proofs.Common.{ltb, length, arith}
+use Rattle.std.proofs.Common.{ℕ, Bool, ◌+◌, ◌&&◌, length, is_some, nat_lt, ◌∙◌, rules, tests, arith}
+use Rattle.std.proofs.lemmas.Iterator.{YieldsList-from_range}
+use Rattle.std.proofs.lemmas.Iterator.Search.{any_from_yields_List}
 use Rattle.programmes.specs.Averages.{averaged}
+use Rattle.programmes.specs.Sites.{call_at, if_call}
 use Rattle.programmes.specs.SiteModels.{site_model}
-use Rattle.programmes.specs.CallSums.{day_finds, day_passes}
-use Rattle.programmes.specs.SumLaws.{some_none}
+use Rattle.programmes.proofs.Cases.{some_and}
+use Rattle.programmes.proofs.MonthLoops.{any_day}
 use Rattle.programmes.proofs.month_calls.too_few_days.Goals as goal
 
-pub loop-k-init : goal.loop-k-init
-loop-k-init c = some_none _
-
-pub returns-then-has_too_few : goal.returns-then-has_too_few
-returns-then-has_too_few c =
+pub returns : goal.returns
+returns c =
     let s = site_model c.args.site.now in
-    day_finds s c.args.kind (λ d _. ltb (length (averaged s d)) 5) c.loop-k.k _ _ (omega (arith, c.loop-k-test.true, c.days-k-end.ensures.value)) c.has_too_few.ensures c.call.ensures c.if-has_too_few.true
-
-pub loop-k-preserved : goal.loop-k-preserved
-loop-k-preserved c =
-    let s = site_model c.args.site.now in
-    day_passes s c.args.kind (λ d _. ltb (length (averaged s d)) 5) c.loop-k.k _ _ c.loop-k.invariant c.has_too_few.ensures c.call.ensures c.if-has_too_few.false
+    let test : ℕ → Bool = λ d. is_some (call_at s c.args.kind d) && nat_lt (length (averaged s d)) 5 in
+    any_from_yields_List test _ _ _ c.any.ensures.ran (YieldsList-from_range 31 (31 + s.days) s.days (search rules) (omega arith)) (λ x r q k. search (rules, tests))
+    ∙ any_day test (λ k. if_call (call_at s c.args.kind (31 + k)) (λ _. nat_lt (length (averaged s (31 + k))) 5)) 31 s.days (λ k. some_and (call_at s c.args.kind (31 + k)) (nat_lt (length (averaged s (31 + k))) 5))

@@ -1,30 +1,37 @@
-use Rattle.std.proofs.Common.{sym, arith}
+use Rattle.std.proofs.Common.{sym, ◌∙◌, arith}
 use Rattle.books.specs.declared.call.CallKind.TheVariants.{Flexible}
 use Rattle.programmes.specs.Layers.{flexible_adds}
-use Rattle.programmes.specs.Sites.{demand}
-use Rattle.programmes.specs.SiteModels.{site_model}
-use Rattle.programmes.proofs.Asking.{full_asked}
-use Rattle.programmes.specs.CallSums.{day_adds}
 use Rattle.programmes.specs.LayerLaws.{beneath}
-use Rattle.programmes.specs.SumLaws.{sum_none}
+use Rattle.programmes.specs.Meterings.{site_of, demand_of}
+use Rattle.programmes.proofs.Asking.{metered_asked}
+use Rattle.programmes.proofs.MonthLoops.{before_month, called_day, other_day}
 use Rattle.programmes.proofs.flexible.FlexibleProgramme.settle.Goals as goal
+use Rattle.programmes.proofs.flexible.FlexibleProgramme.settle.Goals.{in-Some, in_default}
 
-pub loop-k-init : goal.loop-k-init
-loop-k-init g c = (sym (sum_none _), omega arith)
+pub loop-day-init : goal.loop-day-init
+loop-day-init g c =
+    let s = site_of c.args.metered.now in
+    (sym (before_month s Flexible (flexible_adds (g.P.Programme.meaning c.args.self.now.lower) s (demand_of c.args.metered.now))), omega arith)
 
-pub loop-k-preserved : goal.loop-k-preserved
-loop-k-preserved g c =
-    let s = site_model c.args.site.now in
-    let kw = demand c.args.lead.now c.args.readings.now in
-    let m = g.P.Programme.meaning c.args.self.now.lower in (
-      day_adds s Flexible (flexible_adds m s kw) c.loop-k.k _ _ _ c.loop-k.invariant.0 c.added-added.ensures.value c.call-call.ensures,
-      omega (arith, c.loop-k.invariant.1, c.added-added.ensures.bound),
-    )
+pub loop-day-preserved : goal.loop-day-preserved
+loop-day-preserved g c =
+    let s = site_of c.args.metered.now in
+    let adds = flexible_adds (g.P.Programme.meaning c.args.self.now.lower) s (demand_of c.args.metered.now) in
+    let inv = c.loop-day.invariant in
+    let d = c.loop-day.day in
+    elim c.match-call.branch [
+      | in-Some w ↦ (
+        called_day s Flexible adds d _ _ (omega arith) inv.0 c.call.ensures w.in-Some.call _ _ w.in-Some.is w.added-is w.added-added.ensures.value,
+        omega (arith, w.added-is, w.added-added.ensures.bound, inv.1),
+      )
+      | in_default w ↦ (w.added-is ∙ other_day s Flexible adds d _ _ (omega arith) inv.0 c.call.ensures w.in_default.is, omega (arith, w.added-is, inv.1))
+    ]
 
 pub overflow_add-result : goal.overflow_add-result
 overflow_add-result g c =
     let m = g.P.Programme.meaning c.args.self.now.lower in
-    let site = c.args.site.now in
-    let asked = full_asked m site c.args.lead.now c.args.readings.now (beneath (m.refusal (site_model site)) _ c.requires.granted) c.requires.full in
-    let below = (g.met.P.BareProgramme.bare c.args.self.now.lower).bare_credit (site_model site) (demand c.args.lead.now c.args.readings.now) asked in
-    omega (arith, below, c.settle-credit.ensures.credit, c.loop-k.invariant.1, c.loop-k.auto.k-end, c.days-k-end.ensures.short)
+    let metered = c.args.metered.now in
+    let asked = metered_asked m metered (beneath (m.refusal (site_of metered)) _ c.requires.granted) in
+    let below = (g.met.P.BareProgramme.bare c.args.self.now.lower).bare_credit (site_of metered) (demand_of metered) asked in
+    let kept = c.loop-day.invariant.1 in
+    omega (arith, below, c.settle-credit.ensures.credit, kept, c.loop-day.auto.day-end, c.end_day-day-end.ensures.short, c.end_day-day-end.ensures.value)

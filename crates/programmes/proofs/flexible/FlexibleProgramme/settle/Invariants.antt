@@ -1,14 +1,12 @@
-use Rattle.std.proofs.Common.{◌≡◌, ◌+◌, ◌*◌, ◌≤◌}
+use Rattle.std.proofs.Common.{◌≡◌, ◌*◌, ◌≤◌}
 use Rattle.books.specs.declared.call.CallKind.TheVariants.{Flexible}
 use Rattle.programmes.specs.Layers.{flexible_adds}
-use Rattle.programmes.specs.Sites.{call_at, demand, for_call}
-use Rattle.programmes.specs.SiteModels.{site_model}
-use Rattle.programmes.specs.Sums.{sum_below}
+use Rattle.programmes.specs.Meterings.{site_of, demand_of}
+use Rattle.programmes.proofs.MonthLoops.{sum_before}
 use Rattle.programmes.proofs.flexible.FlexibleProgramme.settle.Given as goal
 
-abbrev pub invariant-loop-k : goal.invariant-loop-k
-invariant-loop-k g l =
-    let s = site_model l.site in
-    let kw = demand l.lead l.readings in
+abbrev pub invariant-loop-day : goal.invariant-loop-day
+invariant-loop-day g l =
+    let s = site_of l.metered in
     let m = g.P.Programme.meaning l.self.lower in
-    (l.added ≡ sum_below (λ k. for_call (call_at s Flexible (31 + k)) (flexible_adds m s kw (31 + k))) l.k) × (l.added ≤ 7680000000 * l.k)
+    (l.added ≡ sum_before s Flexible (flexible_adds m s (demand_of l.metered)) l.day) × (l.added ≤ 7680000000 * l.day)

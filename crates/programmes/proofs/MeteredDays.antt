@@ -1,0 +1,54 @@
+-- The readings of a metered site: of a day, or of none, as sums take them, and none above the highest. Assumes nothing.
+use Rattle.std.proofs.Common.{◌≡◌, ℕ, zero, suc, ◌+◌, ◌*◌, ◌<◌, ◌≤◌, Bool, false, ltb, List, [], ◌∷◌, ◌++◌, Option, Some, None, Bor, length, sum_by, get_or, unwrap_or, MatchOption, sym, ap, ◌∙◌, arith}
+use Rattle.std.proofs.lemmas.List.{get_or_past, length-append}
+use Rattle.std.proofs.lemmas.Bool.{or_parts}
+use Rattle.std.proofs.lemmas.Bool.Decides.{nat_tests}
+use Rattle.std.proofs.lemmas.List.Sums.{sum_by-cons}
+use Rattle.readings.specs.Sheets.{any_above}
+use Rattle.programmes.specs.declared.metered.Metered.{Metered}
+use Rattle.programmes.specs.Averages.{kw_in, averaged}
+use Rattle.programmes.specs.Meterings.{site_of, demand_of, ReadsDay}
+use Rattle.programmes.specs.Sites.{eligible}
+use Rattle.programmes.specs.Amounts.{kw_like, kw_bounded, slots_few, latest_few}
+
+module _ (m : Metered) (d : ℕ) where
+  -- a day behind the month has no demand
+  past_month : 31 + (site_of m).days ≤ d → (slot : ℕ) → demand_of m d slot ≡ 0
+  past_month past slot =
+      let long = length-append m.lead.now m.readings.now in
+      let lead = m.full.lead_long in
+      let month = m.full.month_long in
+      get_or_past (m.lead.now ++ m.readings.now) (96 * d + slot) 0 (omega arith)
+
+  -- so a day's readings sum to the same, where no day counts as no readings
+  pub day_kw : (set : ℕ → Bool) (r : Option (Bor (List ℕ))) (none : Bor (List ℕ)) → none.now ≡ [] → MatchOption r (31 + (site_of m).days ≤ d) (λ b. (d < 31 + (site_of m).days) × ReadsDay b.now (demand_of m d)) → kw_in set (λ slot. get_or (unwrap_or r none).now slot 0) ≡ kw_in set (demand_of m d)
+  day_kw set None none e past = kw_like set _ _ (λ slot h _. ap (λ xs. get_or xs slot 0) e ∙ sym (past_month past slot))
+  day_kw set (Some b) none e read = kw_like set _ _ (λ slot h _. read.1.each slot h)
+
+-- readings of which none is above the highest
+low_at : (xs : List ℕ) (i : ℕ) → any_above xs ≡ false → get_or xs i 0 ≤ 40000
+low_at [] i e = omega arith
+low_at (x ∷ xs) zero e = grind (arith, nat_tests)
+low_at (x ∷ xs) (suc i) e = low_at xs i (or_parts (ltb 40000 x) (any_above xs) e).1
+
+low_append : (xs ys : List ℕ) (i : ℕ) → any_above xs ≡ false → any_above ys ≡ false → get_or (xs ++ ys) i 0 ≤ 40000
+low_append [] ys i e f = low_at ys i f
+low_append (x ∷ xs) ys zero e f = low_at (x ∷ xs) 0 e
+low_append (x ∷ xs) ys (suc i) e f = low_append xs ys i (or_parts (ltb 40000 x) (any_above xs) e).1 f
+
+pub metered_low : (m : Metered) (d slot : ℕ) → demand_of m d slot ≤ 40000
+metered_low m d slot = low_append m.lead.now m.readings.now (96 * d + slot) m.full.lead_low m.full.month_low
+
+-- the sum over the days averaged
+sum_small : (f : ℕ → ℕ) (most : ℕ) (es : List ℕ) → ((e : ℕ) → f e ≤ most) → sum_by f es ≤ length es * most
+sum_small f most [] low = omega arith
+sum_small f most (e ∷ es) low = omega (arith, sum_by-cons f e es, low e, sum_small f most es low)
+
+pub averaged_small : (m : Metered) (set : ℕ → Bool) (d : ℕ) → sum_by (λ e. kw_in set (demand_of m e)) (averaged (site_of m) d) ≤ 19200000
+averaged_small m set d =
+    let slots = slots_few set in
+    let all =
+    sum_small (λ e. kw_in set (demand_of m e)) 3840000 (averaged (site_of m) d)
+    (λ e. let kw = kw_bounded set (demand_of m e) (metered_low m e) in omega (arith, kw, slots)) in
+    let few = latest_few 5 (eligible (site_of m)) d in
+    omega (arith, all, few)

@@ -1,0 +1,48 @@
+// How a metered site is made, and what it holds of a day.
+ghost use Rattle.std.specs.Prelude.{◌≡◌, ◌+◌, ◌*◌, ◌<◌, ◌≤◌, MatchResult, MatchOption, Some};
+ghost use Rattle.programmes.specs.Meterings.{site_of, demand_of, metering_refusal, IsMetered, ReadsDay};
+ghost use Rattle.programmes.specs.SiteModels.{site_model};
+
+use super::Metered;
+use crate::site::{LEAD_DAYS, Site};
+use calendar::Refusal;
+use readings::{FullMonth, SLOTS_A_DAY, any_above};
+
+// The readings of a lead.
+const LEAD_READINGS: usize = SLOTS_A_DAY * LEAD_DAYS as usize;
+
+impl<'a> Metered<'a> {
+    // A site with these readings of its lead and of its month.
+    pub fn new(site: Site<'a>, lead: &'a [u32], readings: &'a [u32]) -> Result<Metered<'a>, Refusal>
+        ensures { MatchResult result (λ m. IsMetered m site.entry lead.now readings.now) (λ e. metering_refusal site.entry lead.now readings.now ≡ Some e) }
+    {
+        let month = FullMonth::new(site.month, readings)?;
+        if lead.len() != LEAD_READINGS || any_above(lead) {
+            return Err(Refusal::LeadNotUsable);
+        }
+        let readings = month.readings();
+        Ok(Metered {
+            site,
+            lead,
+            readings,
+        })
+    }
+
+    // The site.
+    pub fn site(&self) -> Site<'a>
+        ensures { result ≡ self.now.site }
+    {
+        self.site
+    }
+
+    // The 96 readings of a day of the lead or the month, where they stand; none of another day.
+    pub fn day_readings(&self, day: u8) -> Option<&'a [u32]>
+        ensures { MatchOption result (31 + (site_of self.now).days ≤ day) (λ r. (day < 31 + (site_of self.now).days) × ReadsDay r.now (demand_of self.now day)) }
+    {
+        let at = SLOTS_A_DAY * usize::from(day);
+        match at.checked_sub(self.lead.len()) {
+            None => self.lead.get(at..at + SLOTS_A_DAY),
+            Some(at) => self.readings.get(at..at + SLOTS_A_DAY),
+        }
+    }
+}
