@@ -4,10 +4,10 @@ use Rattle.std.proofs.lemmas.Bool.{eqb-true}
 use Rattle.books.specs.declared.book.Book.{Book}
 use Rattle.books.specs.declared.off_peak.OffPeakDay.{OffPeakDay}
 use Rattle.readings.specs.declared.sheet.Sheet.{Sheet}
-use Rattle.readings.specs.SheetModels.{sheet_model, sheet_storage, sheet_held}
+use Rattle.readings.specs.SheetModels.{sheet_storage, sheet_held}
 use Rattle.job.specs.declared.reader.Reader.{Reader}
-use Rattle.job.specs.JobModels.{Keeps, LeadsTo, book_room, ends_over, job_model}
-use Rattle.job.specs.Jobs.{Ending, Halts, job_from}
+use Rattle.job.specs.JobModels.{Keeps, LeadsTo, book_room, job_model}
+use Rattle.job.specs.Jobs.{job_from}
 use Rattle.job.specs.Reading.{told}
 use Rattle.job.proofs.LinesCut.{said_nothing}
 use Rattle.job.proofs.JobSteps.{ends}

@@ -1,4 +1,4 @@
-use Rattle.std.proofs.Common.{◌≡◌, ℕ, ◌+◌, ◌-◌, ◌≤◌, List, [], ◌++◌, length, take, drop, Some, None, Ok, Err, Option, Result, IfOk, sym, ap, ◌∙◌, arith, rules}
+use Rattle.std.proofs.Common.{◌≡◌, ℕ, ◌+◌, ◌-◌, ◌≤◌, List, [], ◌++◌, length, take, drop, Ok, Err, Result, IfOk, sym, ap, ◌∙◌, arith, rules}
 use Rattle.std.proofs.lemmas.List.{take-append-drop, length-take-le, length-append, length-drop}
 use Rattle.books.specs.BookModels.{book_entries}
 use Rattle.books.specs.declared.book.Book.{Book}
@@ -12,7 +12,7 @@ use Rattle.readings.specs.SheetModels.{sheet_model, sheet_storage, sheet_held}
 use Rattle.job.specs.declared.reader.Reader.{Reader}
 use Rattle.job.specs.declared.stop.Stop.{Stop}
 use Rattle.job.specs.JobModels.{job_model, book_room, ends_over}
-use Rattle.job.specs.Jobs.{opening, book_places, Ending, ending, job_from, job_ending, job_print, print_of, printed_bytes, buffer_after, storage_after}
+use Rattle.job.specs.Jobs.{opening, book_places, Ending, job_from, job_ending, print_of, printed_bytes, buffer_after, storage_after}
 use Rattle.job.specs.Openings.{Opens}
 use Rattle.job.specs.Reading.{told}
 use Rattle.job.proofs.job.run_job.Goals as goal

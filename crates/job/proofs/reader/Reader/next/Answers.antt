@@ -1,10 +1,10 @@
-use Rattle.std.proofs.Common.{◌≡◌, [], ◌∷◌, length, sym, refl, ap, ◌∙◌, subst, arith}
-use Rattle.std.proofs.lemmas.Bool.{eqb-true, eqb-false}
+use Rattle.std.proofs.Common.{[], ◌∷◌, sym, refl, ap, ◌∙◌, subst, arith}
+use Rattle.std.proofs.lemmas.Bool.{eqb-false}
 use Rattle.job.specs.JobLines.{said}
 use Rattle.job.specs.Reading.{StopsAt}
 use Rattle.job.specs.Texts.{Parts}
-use Rattle.job.proofs.LinesCut.{cut_shorter, said_cut, said_uncut, said_nothing}
-use Rattle.job.proofs.JobSteps.{malformed_stops, incomplete_stops}
+use Rattle.job.proofs.LinesCut.{cut_shorter, said_cut, said_uncut}
+use Rattle.job.proofs.JobSteps.{malformed_stops}
 use Rattle.job.proofs.reader.Reader.next.Goals as goal
 
 pub returns-in_default : goal.returns-in_default
