@@ -10,18 +10,9 @@ fn an_idle_month_has_half_its_basic_charge(rt: HostRuntime) -> Result<(), Fail> 
         tariff: &L2,
         capacities: Capacities::new(10, 0, 10, 5)?,
     };
-    assert_eq!(rt;
-        contract.basic(Season::Summer, &[0, 1]),
-        1_238_600
-    );
-    assert_eq!(rt;
-        contract.basic(Season::OtherMonths, &[1, 0]),
-        936_200
-    );
-    assert_eq!(rt;
-        contract.basic(Season::Summer, &[0, 0]),
-        619_300
-    );
+    assert_eq!(rt; contract.basic(Season::Summer, &[0, 1]), 1_238_600);
+    assert_eq!(rt; contract.basic(Season::OtherMonths, &[1, 0]), 936_200);
+    assert_eq!(rt; contract.basic(Season::Summer, &[0, 0]), 619_300);
     Ok(())
 }
 
