@@ -153,7 +153,7 @@ impl Programme for Bid {
     }
 
     fn baseline(&self, metered: &Metered<'_>, day: u8) -> u64 {
-        // A `match`, since the proof doesn't learn what a closure over a metered site answers to `map_or`.
+        // No `map_or`: tried with the average and with `call_baseline` in the closure, and the proof learns nothing of what it returns.
         match metered.site.call(CallKind::Programme, day) {
             Some(call) => call_baseline(metered, day, call),
             None => 0,
