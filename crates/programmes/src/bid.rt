@@ -1,5 +1,5 @@
 // The bid for peak reduction: calls of the programme are answered by a reduction below the five-day average.
-ghost use Rattle.std.specs.Prelude.{◌≡◌, ◌+◌, ◌*◌, ◌≤◌};
+ghost use Rattle.std.specs.Prelude.{◌≡◌, ◌≤◌};
 ghost use Rattle.programmes.specs.Bids.{bid, basic_credit, basic_rate, call_baseline, call_earns, call_owes, is_missed, reduced};
 ghost use Rattle.programmes.specs.Meterings.{site_of, demand_of};
 ghost use Rattle.programmes.specs.BidLaws.{bid_laws, bid_bare};
