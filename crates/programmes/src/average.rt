@@ -1,5 +1,5 @@
 // Average demand in grains, and what a reduction of it is worth.
-ghost use Rattle.std.specs.Prelude.{◌≡◌, ℕ, ◌+◌, ◌*◌, ◌^◌, ◌/◌, ◌<◌, ◌≤◌, length, sum_by, slice_index};
+ghost use Rattle.std.specs.Prelude.{◌≡◌, ◌*◌, ◌^◌, ◌/◌, ◌≤◌, length, sum_by, slice_index};
 ghost use Rattle.programmes.specs.Averages.{kw_in, slots_in, average_in, averaged, five_day, worth};
 ghost use Rattle.programmes.specs.Parts.{holds};
 ghost use Rattle.programmes.specs.Meterings.{site_of, demand_of};

@@ -1,5 +1,5 @@
 // The bid for peak reduction: calls of the programme are answered by a reduction below the five-day average.
-ghost use Rattle.std.specs.Prelude.{◌≡◌, ◌+◌, ◌*◌, ◌≤◌};
+ghost use Rattle.std.specs.Prelude.{◌≡◌, ◌≤◌};
 ghost use Rattle.programmes.specs.Bids.{bid, basic_credit, basic_rate, call_baseline, call_earns, call_owes, is_missed, reduced};
 ghost use Rattle.programmes.specs.Meterings.{site_of, demand_of};
 ghost use Rattle.programmes.specs.BidLaws.{bid_laws, bid_bare};
@@ -153,7 +153,7 @@ impl Programme for Bid {
     }
 
     fn baseline(&self, metered: &Metered<'_>, day: u8) -> u64 {
-        // A `match`, since the proof doesn't learn what a closure over a metered site answers to `map_or`.
+        // No `map_or`: tried with the average and with `call_baseline` in the closure, and the proof learns nothing of what it returns.
         match metered.site.call(CallKind::Programme, day) {
             Some(call) => call_baseline(metered, day, call),
             None => 0,

@@ -1,7 +1,6 @@
 // How a metered site is made, and what it holds of a day.
-ghost use Rattle.std.specs.Prelude.{◌≡◌, ◌+◌, ◌*◌, ◌<◌, ◌≤◌, MatchResult, MatchOption, Some};
+ghost use Rattle.std.specs.Prelude.{◌≡◌, ◌+◌, ◌<◌, ◌≤◌, MatchResult, MatchOption, Some};
 ghost use Rattle.programmes.specs.Meterings.{site_of, demand_of, metering_refusal, IsMetered, ReadsDay};
-ghost use Rattle.programmes.specs.SiteModels.{site_model};
 
 use super::Metered;
 use crate::site::{LEAD_DAYS, Site};
