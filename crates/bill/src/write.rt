@@ -23,6 +23,7 @@ impl<'a> From<u32> for Value<'a> {
 }
 
 // The lent buffer, and the place where writing goes on.
+// Each method also says that the buffer is still the one that was lent: a fact about a call, which no type can hold.
 #[derive(Drop)]
 pub(crate) struct Writer<'a> {
     buffer: &'a mut [u8],

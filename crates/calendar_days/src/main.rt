@@ -6,6 +6,7 @@ use calendar::{Date, Month, Season, Weekday};
 use std::io;
 use std::io::Write;
 
+// Three letters are this program's format: a `Display` of the library would have to choose one for every caller. So with the seasons.
 fn weekday_name(day: u32) -> &'static str {
     match Weekday::of(day) {
         Weekday::Monday => "Mon",

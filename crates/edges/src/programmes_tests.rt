@@ -12,9 +12,8 @@ const CALLED_DAY: usize = 14;
 // A month at 300 kW, but for eight called slots.
 fn july_readings(called: u32) -> [u32; 2976] {
     let mut readings = [300; 2976];
-    for slot in 40..48 {
-        readings[96 * CALLED_DAY + slot] = called;
-    }
+    let midnight = 96 * CALLED_DAY;
+    readings[midnight + 40..midnight + 48].fill(called);
     readings
 }
 

@@ -27,7 +27,7 @@ pub enum Line<'a> {
     Malformed(&'a [u8]),
 }
 
-// Four parts of a value.
+// Four parts of a value, in a struct and not in an array, since the definitions speak of each by its name.
 #[derive(Clone, Copy)]
 pub struct Four<'a> {
     pub first: &'a [u8],

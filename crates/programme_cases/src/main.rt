@@ -78,9 +78,7 @@ const MOST_CALLS: usize = 64;
 // Writes the demand of a call into its slots.
 fn draw(readings: &mut [u32], day: u32, call: Call, kw: u32) {
     if let Some(slots) = readings.chunks_exact_mut(SLOTS_A_DAY).nth(day as usize) {
-        for slot in &mut slots[usize::from(call.first_slot())..usize::from(call.end_slot())] {
-            *slot = kw;
-        }
+        slots[usize::from(call.first_slot())..usize::from(call.end_slot())].fill(kw);
     }
 }
 

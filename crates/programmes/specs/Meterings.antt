@@ -25,9 +25,8 @@ abbrev pub metering_refusal : Site → List ℕ → List ℕ → Option Refusal
 metering_refusal s lead readings =
     if is_full s.month.year s.month.month readings then (if is_usable lead then None else Some LeadNotUsable) else Some MonthNotFull
 
--- what is not refused holds the site and the readings that it was made of
+-- a metered site holds the site and the readings that it was made of
 pub record IsMetered (m : Metered) (s : Site) (lead readings : List ℕ) : Type 0 where
-  pub granted : metering_refusal s lead readings ≡ None
   pub same_site : m.site ≡ s
   pub same_lead : m.lead.now ≡ lead
   pub same_readings : m.readings.now ≡ readings

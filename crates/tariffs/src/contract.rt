@@ -10,7 +10,8 @@ use calendar::{DayKind, Season};
 pub trait ContractTariff: Tariff {
     ghost contract: { Self → ContractMeaning };
 
-    // What each rank may draw under capacities, in kW.
+    // What each rank may draw under capacities, in kW. Season and capacities stand side by side here and below: one comes with the month and the other
+    // with the contract, and a value of both would only be made for each question anew.
     fn allowances(&self, season: Season, capacities: Capacities) -> ByRank
         ensures { result ≡ (contract self.now).allowances season capacities };
 

@@ -36,7 +36,7 @@ impl TryFrom<u32> for CallKind {
 }
 
 impl Call {
-    // The call on this day, of this kind, from this hour on for so many hours.
+    // The call on this day, of this kind, from this hour on for so many hours. The kind arrives as the number that says it, and is judged in its turn.
     pub fn new(day: u32, kind: u32, start: u32, hours: u32) -> Result<Call, Refusal>
         ensures { Judged result (call_refusal day kind start hours) (λ c. IsCall c day kind start hours) }
     {

@@ -1,5 +1,6 @@
 // How a metered site is made, and what it holds of a day.
-ghost use Rattle.std.specs.Prelude.{◌≡◌, ◌+◌, ◌<◌, ◌≤◌, MatchResult, MatchOption, Some};
+ghost use Rattle.std.specs.Prelude.{◌≡◌, ◌+◌, ◌<◌, ◌≤◌, MatchOption};
+ghost use Rattle.calendar.specs.Judging.{Judged};
 ghost use Rattle.programmes.specs.Meterings.{site_of, demand_of, metering_refusal, IsMetered, ReadsDay};
 
 use super::Metered;
@@ -13,7 +14,7 @@ const LEAD_READINGS: usize = SLOTS_A_DAY * LEAD_DAYS as usize;
 impl<'a> Metered<'a> {
     // A site with these readings of its lead and of its month.
     pub fn new(site: Site<'a>, lead: &'a [u32], readings: &'a [u32]) -> Result<Metered<'a>, Refusal>
-        ensures { MatchResult result (λ m. IsMetered m site.entry lead.now readings.now) (λ e. metering_refusal site.entry lead.now readings.now ≡ Some e) }
+        ensures { Judged result (metering_refusal site.entry lead.now readings.now) (λ m. IsMetered m site.entry lead.now readings.now) }
     {
         let month = FullMonth::new(site.month, readings)?;
         if lead.len() != LEAD_READINGS || any_above(lead) {

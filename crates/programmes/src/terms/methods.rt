@@ -1,5 +1,6 @@
 // How a bid's terms are made, and what they say.
-ghost use Rattle.std.specs.Prelude.{◌≡◌, ◌≤◌, Some, MatchResult};
+ghost use Rattle.std.specs.Prelude.{◌≡◌, ◌≤◌};
+ghost use Rattle.calendar.specs.Judging.{Judged};
 ghost use Rattle.programmes.specs.Bids.{terms_refusal};
 ghost use Rattle.programmes.specs.Terms.{AreTerms};
 
@@ -9,7 +10,7 @@ use calendar::Refusal;
 impl BidTerms {
     // The terms of this contract reduction at this price.
     pub fn new(reduction: u32, price: u32) -> Result<BidTerms, Refusal>
-        ensures { MatchResult result (λ t. AreTerms t reduction price) (λ e. terms_refusal reduction price ≡ Some e) }
+        ensures { Judged result (terms_refusal reduction price) (λ t. AreTerms t reduction price) }
     {
         if reduction < 20 || reduction > 40_000 {
             return Err(Refusal::ReductionOutOfRange);
