@@ -41,8 +41,8 @@ impl<T: Drop> From<AllocFailed<T>> for Unsettled {
 }
 
 // The credit and the extra of a programme.
-fn settled<P: Programme>(
-    programme: &P,
+fn settled(
+    programme: &dyn Programme,
     site: Site<'_>,
     lead: &[u32],
     readings: &[u32],
@@ -114,12 +114,15 @@ fn come_to(heap: Global, line: &[u32]) -> Result<(u64, u64), Unsettled> {
         calls: &calls,
     };
     let bid = Bid::new(BidTerms::new(at(line, 2), at(line, 3))?);
-    match at(line, 0) {
-        0 => settled(&NoProgramme, site, &lead, &readings),
-        1 => settled(&bid, site, &lead, &readings),
-        2 => settled(&Flexible::new(bid), site, &lead, &readings),
-        _ => settled(&Flexible::new(NoProgramme), site, &lead, &readings),
-    }
+    let layer = Flexible::new(bid);
+    let layer_alone = Flexible::new(NoProgramme);
+    let programme: &dyn Programme = match at(line, 0) {
+        0 => &NoProgramme,
+        1 => &bid,
+        2 => &layer,
+        _ => &layer_alone,
+    };
+    settled(programme, site, &lead, &readings)
 }
 
 fn main(rt: HostRuntime) -> anyhow::Result<()> {
