@@ -1,8 +1,8 @@
 -- No programme and the bid keep the laws of every programme. Assumes nothing.
-use Rattle.std.specs.Prelude.{◌≡◌, ℕ, ◌+◌, ◌-◌, ◌*◌, ◌/◌, ◌^◌, ◌<◌, ◌≤◌, max, true, false, cond, ◌&&◌, ◌||◌, Some, ◌==◌, nat_eq, refl}
+use Rattle.std.specs.Prelude.{◌≡◌, ℕ, ◌+◌, ◌-◌, ◌*◌, ◌/◌, ◌^◌, ◌<◌, ◌≤◌, max, true, false, cond, ◌&&◌, ◌||◌, Some, ◌==◌, ◌≢◌, nat_eq, refl}
 use Rattle.std.proofs.Common.{sym, ap, subst, ◌∙◌, ⊎_elim, mul-le-mul, mul-le-mul_left, mul_comm, arith}
 use Rattle.std.proofs.Math.Nat.{div-le_of_le-mul}
-use Rattle.std.proofs.lemmas.Bool.{and_from, or_left, or_right, eq-eqb, cond_both, cases_Bool, eqb-true}
+use Rattle.std.proofs.lemmas.Bool.{and_from, or_left, or_right, eq-eqb, cond_both, cond-false, ne_eqb, cases_Bool, eqb-true}
 use Rattle.std.proofs.lemmas.Bool.Decides.{nat_tests}
 use Rattle.books.specs.declared.call.Call.{Call}
 use Rattle.books.specs.declared.call.CallKind.TheVariants.{Programme}
@@ -75,6 +75,16 @@ basic_bounded reduction rate calls missed h low =
 
 rate_low : (calls hours : ℕ) → basic_rate calls hours ≤ 6000
 rate_low calls hours = grind (arith, nat_tests)
+
+-- the share of the calls that were not missed, as the code takes it
+pub basic_missed : (reduction rate calls missed r a b n m : ℕ) → a ≡ reduction → b ≡ rate → n ≡ calls - missed → m ≡ calls → (missed ≢ 0) → r ≡ 4 * a * b * n / m → r ≡ basic_credit reduction rate calls missed
+basic_missed reduction rate calls missed r a b n m ea eb en em some e =
+    e
+    ∙ ap (λ x. 4 * x * b * n / m) ea
+    ∙ ap (λ x. 4 * reduction * x * n / m) eb
+    ∙ ap (λ x. 4 * reduction * rate * x / m) en
+    ∙ ap (λ x. 4 * reduction * rate * (calls - missed) / x) em
+    ∙ sym (cond-false (missed == 0) (4 * reduction * rate * 6 / 5) (4 * reduction * rate * (calls - missed) / calls) (ne_eqb missed 0 some))
 
 -- the credit, as the code sums it up
 pub bid_sums : (reduction price : ℕ) (s : SiteModel) (kw : Demand) (k earned missed basic red rate count hours : ℕ) → k ≡ s.days → earned ≡ sum_below (λ j. for_call (call_at s Programme (31 + j)) (call_earns price s kw (31 + j))) k → missed ≡ sum_below (λ j. for_call (call_at s Programme (31 + j)) (λ c. cond (is_missed reduction (reduced s kw (31 + j) c)) 1 0)) k → basic ≡ basic_credit red rate count missed → red ≡ reduction → rate ≡ basic_rate count hours → count ≡ call_count s → hours ≡ called_hours s → earned + basic ≡ bid_credit reduction price s kw

@@ -1,11 +1,12 @@
 -- Sums over the month's calls of a kind. Assumes nothing.
-use Rattle.std.specs.Prelude.{◌≡◌, ℕ, ◌+◌, ◌*◌, ◌<◌, ◌≤◌, Bool, true, Some, None, Option, refl}
-use Rattle.std.proofs.Common.{ap, ◌∙◌, arith}
+use Rattle.std.specs.Prelude.{◌≡◌, ℕ, ◌+◌, ◌*◌, ◌<◌, ◌≤◌, Bool, true, false, Some, None, Option, refl}
+use Rattle.std.proofs.Common.{sym, ap, ◌∙◌, arith}
+use Rattle.std.proofs.lemmas.Bool.{or_from}
 use Rattle.books.specs.declared.call.Call.{Call}
 use Rattle.books.specs.declared.call.CallKind.{CallKind}
 use Rattle.programmes.specs.Sites.{SiteModel, call_at, for_call, if_call, sum_of_calls, some_call}
-use Rattle.programmes.specs.Sums.{sum_below}
-use Rattle.programmes.specs.SumLaws.{sum_more, sum_like, sum_grows, sum_bounded, some_at}
+use Rattle.programmes.specs.Sums.{sum_below, some_below}
+use Rattle.programmes.specs.SumLaws.{sum_more, some_more, sum_like, sum_grows, sum_bounded, some_at}
 
 -- a fact on the number of each call holds of the number of a day
 pub for_each : (P : ℕ → ℕ → Type 0) (o : Option Call) (f g : Call → ℕ) → P 0 0 → ((c : Call) → o ≡ Some c → P (f c) (g c)) → P (for_call o f) (for_call o g)
@@ -39,3 +40,14 @@ module _ (s : SiteModel) (kind : CallKind) where
       let step = sum_more (λ j. for_call (call_at s kind (31 + j)) (f (31 + j))) k in
       let here = m ∙ ap (λ o. for_call o (f (31 + k))) q in
       omega (arith, e, step, here)
+
+  -- or finds a call that passes
+  pub day_finds : (p : ℕ → Call → Bool) (k : ℕ) (t : Bool) (o : Option Call) → k < s.days → t ≡ if_call o (p (31 + k)) → o ≡ call_at s kind (31 + k) → t ≡ true → true ≡ some_call s kind p
+  day_finds p k t o h e q passes =
+      sym (some_at (λ j. if_call (call_at s kind (31 + j)) (p (31 + j))) s.days k h (ap (λ o. if_call o (p (31 + k))) (sym q) ∙ sym e ∙ passes))
+
+  -- or goes on to the next day
+  pub day_passes : (p : ℕ → Call → Bool) (k : ℕ) (t : Bool) (o : Option Call) → some_below (λ j. if_call (call_at s kind (31 + j)) (p (31 + j))) k ≡ false → t ≡ if_call o (p (31 + k)) → o ≡ call_at s kind (31 + k) → t ≡ false → some_below (λ j. if_call (call_at s kind (31 + j)) (p (31 + j))) (k + 1) ≡ false
+  day_passes p k t o inv e q fails =
+      some_more (λ j. if_call (call_at s kind (31 + j)) (p (31 + j))) k
+      ∙ or_from _ _ inv (ap (λ o. if_call o (p (31 + k))) (sym q) ∙ sym e ∙ fails)
