@@ -79,7 +79,8 @@ impl Metered<'_> {
             .sum()
     }
 
-    // The five-day average of a part for a day, in grains.
+    // The five-day average of a part for a day, in grains. Its bound, and those of what is made of it, are clauses: a type for grains would stand
+    // between these numbers and the definitions, which speak of plain numbers.
     pub(crate) fn five_day(&self, part: &Part, day: u8) -> u64
         ensures value { result ≡ five_day (site_of self.now) (demand_of self.now) (holds part.now) day }
         ensures bound { result ≤ 48000000 }

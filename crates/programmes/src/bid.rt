@@ -71,7 +71,8 @@ fn basic_credit(reduction: u32, rate: u32, calls: u32, missed: u32) -> u64
     }
 }
 
-// A call's baseline in grains: the five-day average of its slots.
+// A call's baseline in grains: the five-day average of its slots. A metered site, a day and its call stand side by side here and in the layer: a value
+// of the three would be taken apart again in each function, and in each of its clauses.
 fn call_baseline(metered: &Metered<'_>, day: u8, call: Call) -> u64
     ensures value { result ≡ call_baseline (site_of metered.now) (demand_of metered.now) day call }
     ensures bound { result ≤ 48000000 }
