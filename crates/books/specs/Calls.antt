@@ -13,10 +13,11 @@ abbrev pub kind_number : CallKind → ℕ
 kind_number Programme = 1
 kind_number Flexible = 2
 
--- the kind that a number says; other numbers say none
+-- 1 and 2 say a kind, other numbers none
 abbrev pub kind_refusal : ℕ → Option Refusal
 kind_refusal number = cond (number == 1 || number == 2) None (Some UnknownCallKind)
 
+-- the kind that a number says, or its refusal
 abbrev pub KindOf : ℕ → Result CallKind Refusal → Type 0
 KindOf number r = Judged r (kind_refusal number) (λ k. kind_number k ≡ number)
 

@@ -49,7 +49,7 @@ pub(crate) fn body(
     ensures ends { MatchResult result (λ u. EndsAs sheet.old off_peak.old reader.entry sheet.new off_peak.new) (λ e. HaltsAt sheet.old off_peak.old reader.entry sheet.new e) }
     ensures keeps { Keeps sheet.old off_peak.old sheet.new off_peak.new }
 {
-    // No `for`: a line that is not of the form ends the walk with its refusal, and an iterator would have to carry that to its end.
+    // No `for`: the step is given the reader, with the number of its line, and gives back what is left.
     let mut rest = reader;
     while !rest.is_empty() {
         rest = body_line(sheet, off_peak, rest)?;

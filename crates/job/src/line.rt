@@ -23,7 +23,7 @@ pub enum Line<'a> {
         start: &'a [u8],
         hours: &'a [u8],
     },
-    // A line that is not of the form is a case among these: the reader's lines are parts of the text, whatever they hold.
+    // What is not of the form is a case, so that `read` gives a line for every text and cannot fail.
     Malformed(&'a [u8]),
 }
 

@@ -5,8 +5,8 @@ ghost use Rattle.job.specs.Stopping.{refused_whole};
 use bill::Unprinted;
 use calendar::Refusal;
 
-// A refusal with the line that it names, or a line that is not carried out yet. Where no line is named the number is 0, as it is printed: an
-// `Option` would be turned into that number again wherever a line is told.
+// A refusal with the line that it names, or a line that is not carried out yet. Where no line is named the number is 0, as in the print, in the definitions
+// and in the tests: an `Option` would be turned into that number for each of them.
 #[derive(Clone, Copy, PartialEq, Eq, Debug)]
 pub enum Stop {
     Refused { refusal: Refusal, line: u32 },

@@ -1,4 +1,4 @@
-// The leaves of reading: a text cut at a byte, a number, a word compared.
+// The leaves of reading: a text cut at a byte, and a number.
 ghost use Rattle.std.specs.Prelude.{◌≡◌};
 ghost use Rattle.std.specs.Option.{option_map};
 ghost use Rattle.job.specs.Texts.{cut_at, parts, number_of, digit_of};

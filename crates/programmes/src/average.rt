@@ -66,7 +66,7 @@ impl Metered<'_> {
         kw_in(part, self.day_readings(day).unwrap_or(&[]))
     }
 
-    // The sum of those, over the days averaged for a day.
+    // The sum of those, over the days averaged for a day. The chain of these days stands here and in `days_averaged`: its type has no name to hand it out by.
     fn averaged_kw(&self, part: &Part, day: u8) -> u64
         ensures value { result ≡ sum_by (λ e. kw_in (holds part.now) (demand_of self.now e)) (averaged (site_of self.now) day) }
         ensures bound { result ≤ 19200000 }
@@ -79,8 +79,8 @@ impl Metered<'_> {
             .sum()
     }
 
-    // The five-day average of a part for a day, in grains. Its bound, and those of what is made of it, are clauses: a type for grains would stand
-    // between these numbers and the definitions, which speak of plain numbers.
+    // The five-day average of a part for a day, in grains. Its bound, and those of what is made of it, are clauses: in a type for grains each sum
+    // and each difference of them would have to be made anew, with the same bounds to show.
     pub(crate) fn five_day(&self, part: &Part, day: u8) -> u64
         ensures value { result ≡ five_day (site_of self.now) (demand_of self.now) (holds part.now) day }
         ensures bound { result ≤ 48000000 }

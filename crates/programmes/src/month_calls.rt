@@ -8,7 +8,8 @@ use crate::average::{DAYS_AVERAGED, days_averaged};
 use crate::site::{LEAD_DAYS, Site};
 use books::{Call, CallKind};
 
-// Whether some call of a kind has fewer than five days to average.
+// Whether some call of a kind has fewer than five days to average. The walks over the month's calls stand at their uses, here and in the settlements: they
+// test, count, or take a step that asks for a day of the month, and one walk given the step would need a clause for each.
 pub(crate) fn too_few_days(site: &Site<'_>, kind: CallKind) -> bool
     ensures { result ≡ some_too_few (site_model site.now) kind }
 {

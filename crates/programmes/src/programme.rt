@@ -37,7 +37,8 @@ pub trait Programme {
     fn price_past(&self) -> u32
         ensures { result ≡ (meaning self.now).price_past };
 
-    // Its credit and its extra for the month of a site that it does not refuse, in units.
+    // Its credit and its extra for the month of a site that it does not refuse, in units. That is a fact about a programme and a site together: a type for
+    // it would be generic in the programme, and be made anew beneath each layer.
     fn settle(&self, metered: &Metered<'_>) -> (u64, u64)
         requires granted { (meaning self.now).refusal (site_of metered.now) ≡ None }
         ensures credit { result.0 ≡ (meaning self.now).credit (site_of metered.now) (demand_of metered.now) }

@@ -45,7 +45,8 @@ impl<'t> Reader<'t> {
         }
     }
 
-    // What was made of the next line; where that was refused, the refusal names the line.
+    // What was made of the next line; where that was refused, the refusal names the line. `map_err` was tried: the check learns nothing of what its closure
+    // gives unless the closure has a clause of its own.
     pub(crate) fn judged<T>(&self, made: Result<T, Refusal>) -> Result<T, Stop>
         ensures { result ≡ naming self.now.number made }
     {
@@ -62,7 +63,7 @@ impl<'t> Reader<'t> {
         Stop::Unsupported { line: self.number }
     }
 
-    // What the next line says, and the lines behind it.
+    // What the next line says, and the lines behind it. `ok_or` with `?` was tried: its proof takes the answer apart three times more, and the code says no more.
     pub(crate) fn next(self) -> Result<(Statement<'t>, Reader<'t>), Stop>
         requires { length self.text.now ≡ 0 → self.number ≤ 6 }
         ensures { MatchResult result (λ p. Reads self.entry (says p.0) p.1) (λ e. StopsAt self.entry e) }

@@ -39,10 +39,9 @@ impl<'a> Metered<'a> {
     pub fn day_readings(&self, day: u8) -> Option<&'a [u32]>
         ensures { MatchOption result (31 + (site_of self.now).days ≤ day) (λ r. (day < 31 + (site_of self.now).days) × ReadsDay r.now (demand_of self.now day)) }
     {
-        let at = SLOTS_A_DAY * usize::from(day);
-        match at.checked_sub(self.lead.len()) {
-            None => self.lead.get(at..at + SLOTS_A_DAY),
-            Some(at) => self.readings.get(at..at + SLOTS_A_DAY),
-        }
+        self.lead
+            .chunks_exact(SLOTS_A_DAY)
+            .chain(self.readings.chunks_exact(SLOTS_A_DAY))
+            .nth(usize::from(day))
     }
 }
