@@ -16,5 +16,7 @@ pub record Wrote (xs : List ℕ) (a : ℕ) (bs : List ℕ) (r : ℕ) (ys : List 
 abbrev pub HasRoom : Writer → List ℕ → Type 0
 HasRoom w bs = Room w.buffer.now w.at bs
 
-abbrev pub Writes : Writer → List ℕ → Writer → Type 0
-Writes w bs v = Wrote w.buffer.now w.at bs v.at v.buffer.now
+-- and the writer still holds the buffer that it was lent
+pub record Writes (w : Writer) (bs : List ℕ) (v : Writer) : Type 0 where
+  pub wrote : Wrote w.buffer.now w.at bs v.at v.buffer.now
+  pub same_loan : v.buffer.ghost_name ≡ w.buffer.ghost_name

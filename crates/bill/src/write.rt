@@ -23,7 +23,6 @@ impl<'a> From<u32> for Value<'a> {
 }
 
 // The lent buffer, and the place where writing goes on.
-// Each method also says that the buffer is still the one that was lent: a fact about a call, which no type can hold.
 #[derive(Drop)]
 pub(crate) struct Writer<'a> {
     buffer: &'a mut [u8],
@@ -50,8 +49,7 @@ impl<'a> Writer<'a> {
     // Writes one byte.
     fn byte(&mut self, byte: u8)
         requires { HasRoom self.old (byte ∷ []) }
-        ensures wrote { Writes self.old (byte ∷ []) self.new }
-        ensures named { self.new.buffer.ghost_name ≡ self.old.buffer.ghost_name }
+        ensures { Writes self.old (byte ∷ []) self.new }
     {
         self.buffer[self.at] = byte;
         self.at += 1;
@@ -60,8 +58,7 @@ impl<'a> Writer<'a> {
     // Writes the bytes as they stand.
     fn bytes(&mut self, bytes: &[u8])
         requires { HasRoom self.old bytes.now }
-        ensures wrote { Writes self.old bytes.now self.new }
-        ensures named { self.new.buffer.ghost_name ≡ self.old.buffer.ghost_name }
+        ensures { Writes self.old bytes.now self.new }
     {
         let end = self.at + bytes.len();
         self.buffer[self.at..end].copy_from_slice(bytes);
@@ -72,8 +69,7 @@ impl<'a> Writer<'a> {
     // By hand: std's writers promise what they wrote only where they answer Ok, and a print into 512 bytes can't fail.
     fn decimal(&mut self, number: u64)
         requires { HasRoom self.old (decimal number) }
-        ensures wrote { Writes self.old (decimal number) self.new }
-        ensures named { self.new.buffer.ghost_name ≡ self.old.buffer.ghost_name }
+        ensures { Writes self.old (decimal number) self.new }
     {
         if number >= 10 {
             self.decimal(number / 10);
@@ -84,8 +80,7 @@ impl<'a> Writer<'a> {
     // Writes what a line shows.
     fn value(&mut self, value: Value<'_>)
         requires { HasRoom self.old (shown value) }
-        ensures wrote { Writes self.old (shown value.entry) self.new }
-        ensures named { self.new.buffer.ghost_name ≡ self.old.buffer.ghost_name }
+        ensures { Writes self.old (shown value.entry) self.new }
     {
         match value {
             Value::Text(text) => self.bytes(text),
@@ -102,8 +97,7 @@ impl<'a> Writer<'a> {
     // Writes a line.
     pub(crate) fn line(&mut self, key: &[u8], value: Value<'_>)
         requires { HasRoom self.old (line key.now (shown value)) }
-        ensures wrote { Writes self.old (line key.now (shown value.entry)) self.new }
-        ensures named { self.new.buffer.ghost_name ≡ self.old.buffer.ghost_name }
+        ensures { Writes self.old (line key.now (shown value.entry)) self.new }
     {
         self.bytes(key);
         self.byte(b'=');

@@ -29,16 +29,20 @@ byte-requires t c =
       | else-number-ge10 w ↦ subst (λ (s : Writer). HasRoom s (last n)) (sym w.self-is) (room_as (one_digit n (omega (arith, w.if-number-ge10.false))) c.requires)
     ]
 
-pub returns-clause-wrote : goal.returns-clause-wrote
-returns-clause-wrote t c =
+pub returns : goal.returns
+returns t c =
     let n = c.args.number in
     let small : n < 2 ^ 64 = omega arith in
     elim c.if-number-ge10.branch [
       | then-number-ge10 w ↦
           let step = decimal_step n (omega (arith, w.if-number-ge10.true)) small in
-          let wrote = subst (λ (s : Writer). Writes c.args.self.now (decimal (n / 10)) s) (sym w.self-is) w.decimal.ensures.wrote in
-          wrote_as (sym step) (then_wrote (room_as step c.requires) wrote c.byte.ensures.wrote)
+          let front = subst (λ (s : Writer). Writes c.args.self.now (decimal (n / 10)) s) (sym w.self-is) w.decimal.ensures in
+          record {
+            wrote = wrote_as (sym step) (then_wrote (room_as step c.requires) front.wrote c.byte.ensures.wrote);
+            same_loan = c.byte.ensures.same_loan ∙ front.same_loan;
+          }
       | else-number-ge10 w ↦
           let digit = one_digit n (omega (arith, w.if-number-ge10.false)) in
-          wrote_as (sym digit) (subst (λ (s : Writer). Writes s (last n) c.byte.new.self) w.self-is c.byte.ensures.wrote)
+          let whole = subst (λ (s : Writer). Writes s (last n) c.byte.new.self) w.self-is c.byte.ensures in
+          record { wrote = wrote_as (sym digit) whole.wrote; same_loan = whole.same_loan }
     ]

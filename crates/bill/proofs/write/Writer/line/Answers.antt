@@ -1,4 +1,4 @@
-use Rattle.std.proofs.Common.{ℕ, List, [], ◌∷◌, ◌++◌}
+use Rattle.std.proofs.Common.{ℕ, List, [], ◌∷◌, ◌++◌, ◌∙◌}
 use Rattle.bill.specs.PrintText.{line}
 use Rattle.bill.specs.PrintValues.{shown}
 use Rattle.bill.specs.PrintWrote.{Room, Wrote}
@@ -29,9 +29,14 @@ pub byte-requires-2 : goal.byte-requires-2
 byte-requires-2 c =
     room_then (shown c.args.value) (10 ∷ []) (after_sign c.args.key.now (shown c.args.value) c.requires c.bytes.ensures.wrote c.byte.ensures.wrote) c.value.ensures.wrote
 
-pub returns-clause-wrote : goal.returns-clause-wrote
+pub returns : goal.returns
 unfolding line
-returns-clause-wrote c =
+returns c =
     let key = after_key c.args.key.now (shown c.args.value) c.requires c.bytes.ensures.wrote in
     let sign = after_sign c.args.key.now (shown c.args.value) c.requires c.bytes.ensures.wrote c.byte.ensures.wrote in
-    then_wrote c.requires c.bytes.ensures.wrote (then_wrote key c.byte.ensures.wrote (then_wrote sign c.value.ensures.wrote c.byte-2.ensures.wrote))
+    record {
+      wrote = then_wrote c.requires c.bytes.ensures.wrote (then_wrote key c.byte.ensures.wrote (then_wrote sign c.value.ensures.wrote c.byte-2.ensures.wrote));
+      same_loan =
+          c.byte-2.ensures.same_loan
+          ∙ (c.value.ensures.same_loan ∙ (c.byte.ensures.same_loan ∙ c.bytes.ensures.same_loan));
+    }

@@ -7,8 +7,8 @@ use Rattle.bill.proofs.Writing.{room_as, then_wrote, wrote_as, signed_below, sig
 use Rattle.bill.proofs.write.Writer.value.Goals as goal
 use Rattle.bill.proofs.write.Writer.value.Goals.{then-number-lt0, else-number-lt0}
 
-pub returns-after-number-lt0-clause-wrote : goal.returns-after-number-lt0-clause-wrote
-returns-after-number-lt0-clause-wrote c =
+pub returns-after-number-lt0 : goal.returns-after-number-lt0
+returns-after-number-lt0 c =
     let z = c.in-Signed.number in
     let n = c.unsigned_abs.result in
     let value : shown c.args.value ≡ signed_decimal z = ap shown c.in-Signed.is in
@@ -17,9 +17,13 @@ returns-after-number-lt0-clause-wrote c =
       | then-number-lt0 w ↦
           let below : z <ℤ pos 0 = search rules in
           let same = signed_below z n below size in
-          let sign = subst (λ (s : Writer). Writes c.args.self.now (45 ∷ []) s) (sym w.self-is) w.byte.ensures.wrote in
-          wrote_as (same ∙ sym value) (then_wrote (room_as (value ∙ sym same) c.requires) sign c.decimal-in-Signed.ensures.wrote)
+          let sign = subst (λ (s : Writer). Writes c.args.self.now (45 ∷ []) s) (sym w.self-is) w.byte.ensures in
+          record {
+            wrote = wrote_as (same ∙ sym value) (then_wrote (room_as (value ∙ sym same) c.requires) sign.wrote c.decimal-in-Signed.ensures.wrote);
+            same_loan = c.decimal-in-Signed.ensures.same_loan ∙ sign.same_loan;
+          }
       | else-number-lt0 w ↦
           let above : ¬ (z <ℤ pos 0) = search rules in
-          wrote_as (signed_from_zero z n above size ∙ sym value) (subst (λ (s : Writer). Writes s (decimal n) c.decimal-in-Signed.new.self) w.self-is c.decimal-in-Signed.ensures.wrote)
+          let digits = subst (λ (s : Writer). Writes s (decimal n) c.decimal-in-Signed.new.self) w.self-is c.decimal-in-Signed.ensures in
+          record { wrote = wrote_as (signed_from_zero z n above size ∙ sym value) digits.wrote; same_loan = digits.same_loan }
     ]
