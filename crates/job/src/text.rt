@@ -15,10 +15,7 @@ pub fn cut(text: &[u8], at: u8) -> Option<(&[u8], &[u8])>
 pub fn digit(b: u8) -> Option<u32>
     ensures { result ≡ digit_of b }
 {
-    match b {
-        b'0'..=b'9' => Some(u32::from(b - b'0')),
-        _ => None,
-    }
+    char::from(b).to_digit(10)
 }
 
 // The most digits that a number has.
