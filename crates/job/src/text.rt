@@ -21,7 +21,7 @@ pub fn digit(b: u8) -> Option<u32>
 // The most digits that a number has.
 const MOST_DIGITS: usize = 8;
 
-// The number that 1 to 8 digits say.
+// The number that 1 to 8 digits say. No `parse`: it takes a sign too, and as many digits as there are.
 pub fn number(digits: &[u8]) -> Option<u32>
     ensures { result ≡ number_of digits.now }
 {
