@@ -17,7 +17,7 @@ fn july_readings(called: u32) -> [u32; 2976] {
     readings
 }
 
-// Credit and extra of a programme that does not refuse the site.
+// Credit and extra of a programme that does not refuse the site, which is metered here with its lead and its month.
 fn settled<P: Programme>(
     programme: &P,
     site: &Site<'_>,

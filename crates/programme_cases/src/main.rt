@@ -40,7 +40,7 @@ impl<T: Drop> From<AllocFailed<T>> for Unsettled {
     }
 }
 
-// The credit and the extra of a programme.
+// The credit and the extra of a programme over a site, which is metered here with its lead and its month.
 fn settled(
     programme: &dyn Programme,
     site: Site<'_>,

@@ -171,6 +171,7 @@ impl Programme for Bid {
 
     fn settle(&self, metered: &Metered<'_>) -> (u64, u64) {
         let site = &metered.site;
+        // The days of `call_totals`, and another step: this one fills three sums, and needs the readings.
         let mut earned = 0;
         let mut owed = 0;
         let mut missed = 0;

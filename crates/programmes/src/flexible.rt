@@ -29,7 +29,8 @@ impl<P: BareProgramme> Flexible<P> {
         Flexible { lower }
     }
 
-    // What a call adds in the slots that it shares with the lower programme's own call of the day.
+    // What a call adds in the slots that it shares with the lower programme's own call of the day. Its bound rests on the lower one's law, which is about days
+    // of the month.
     fn shared_credit(&self, metered: &Metered<'_>, day: u8, call: Call) -> u64
         requires granted { (P.Programme.meaning self.now.lower).refusal (site_of metered.now) ≡ None }
         requires from { 31 ≤ day }
@@ -108,6 +109,7 @@ impl<P: BareProgramme> Programme for Flexible<P> {
     fn settle(&self, metered: &Metered<'_>) -> (u64, u64) {
         let (credit, extra) = self.lower.settle(metered);
         let site = &metered.site;
+        // A `for`: the step asks for a day of the month, which a closure in a chain would not know of its day.
         let mut added = 0;
         for day in LEAD_DAYS..site.end_day() {
             if let Some(call) = site.call(CallKind::Flexible, day) {
