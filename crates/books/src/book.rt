@@ -21,7 +21,7 @@ pub struct Book<'a, E> {
     count: usize,
 }
 
-// The entry with this key, if there is one. All are looked at: that the keys rise is promised by each booking, and no invariant beside a lent slice can say it.
+// The entry with this key, if there is one. All are looked at: that the keys rise is promised by each booking, and no invariant beside a slice lent as `&mut` can.
 pub(crate) fn find_among<E: Entry>(entries: &[E], key: u32) -> Option<E>
     ensures { result ≡ found E.Entry.keyed key entries.now }
 {

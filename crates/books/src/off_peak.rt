@@ -1,4 +1,4 @@
-// A day that is booked as off-peak, whatever its weekday. Only `OffPeakDay::new` makes one.
+// A day that is booked as off-peak, whatever its weekday. Only `OffPeakDay::new` and `OffPeakDay::first` make one.
 ghost use Rattle.std.specs.Prelude.{◌≤◌};
 
 mod methods;

@@ -11,11 +11,6 @@ pub malformed_stops : (n : ℕ) (lines more : List (Option Says)) → lines ≡ 
 malformed_stops n lines more e room places s =
     (ap (λ ls. (job_from room places n s ls).why) e, ap (λ ls. (job_from room places n s ls).state.sheet.readings) e)
 
--- a job that ends before its seventh line is incomplete
-pub incomplete_stops : (n : ℕ) (lines : List (Option Says)) → lines ≡ [] → n ≤ 6 → Stops n lines (Refused JobIncomplete 0)
-incomplete_stops n lines e h room places s =
-    (ap (λ ls. (job_from room places n s ls).why) e ∙ cond-true _ _ _ (le-leb n 6 h), ap (λ ls. (job_from room places n s ls).state.sheet.readings) e)
-
--- and one that ends later leaves what it holds
+-- a job that ends from its seventh line on leaves what it holds
 pub ends : (n : ℕ) (lines : List (Option Says)) → lines ≡ [] → 7 ≤ n → (room places : ℕ) (s : JobState) → job_from room places n s lines ≡ ending s None
 ends n lines e h room places s = ap (job_from room places n s) e ∙ ap (ending s) (cond-false _ _ _ (lt-leb n 6 h))

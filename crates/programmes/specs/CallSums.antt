@@ -41,12 +41,12 @@ module _ (s : SiteModel) (kind : CallKind) where
       let here = m ∙ ap (λ o. for_call o (f (31 + k))) q in
       omega (arith, e, step, here)
 
-  -- or finds a call that passes
+  -- a call that passes is found
   pub day_finds : (p : ℕ → Call → Bool) (k : ℕ) (t : Bool) (o : Option Call) → k < s.days → t ≡ if_call o (p (31 + k)) → o ≡ call_at s kind (31 + k) → t ≡ true → true ≡ some_call s kind p
   day_finds p k t o h e q passes =
       sym (some_at (λ j. if_call (call_at s kind (31 + j)) (p (31 + j))) s.days k h (ap (λ o. if_call o (p (31 + k))) (sym q) ∙ sym e ∙ passes))
 
-  -- or goes on to the next day
+  -- where none passed so far, nor on this day, none has passed
   pub day_passes : (p : ℕ → Call → Bool) (k : ℕ) (t : Bool) (o : Option Call) → some_below (λ j. if_call (call_at s kind (31 + j)) (p (31 + j))) k ≡ false → t ≡ if_call o (p (31 + k)) → o ≡ call_at s kind (31 + k) → t ≡ false → some_below (λ j. if_call (call_at s kind (31 + j)) (p (31 + j))) (k + 1) ≡ false
   day_passes p k t o inv e q fails =
       some_more (λ j. if_call (call_at s kind (31 + j)) (p (31 + j))) k

@@ -14,7 +14,7 @@ pub struct FullMonth<'a> {
 }
 
 impl<'a> FullMonth<'a> {
-    // These readings of a month, refused where a slot has none.
+    // These readings of a month, refused where they are not one for each slot, or one is above the highest.
     pub fn new(month: Month, readings: &'a [u32]) -> Result<FullMonth<'a>, Refusal>
         ensures { MatchResult result (λ f. (f.month ≡ month) × (f.readings.now ≡ readings.now)) (λ e. (is_full month.year month.month readings.now ≡ false) × (e ≡ MonthNotFull)) }
     {

@@ -36,7 +36,7 @@ fn saturday_rank(slot: usize) -> Rank
     }
 }
 
-// The rank of a slot of a day in a contract tariff, given its rank on a working day.
+// The rank of a slot of a day in a contract tariff, given its rank on a working day: the one match that H3 and L2 share.
 pub(crate) fn contract_rank(working: Rank, kind: DayKind, slot: usize) -> Rank
     ensures { result ≡ rank_of_kind working kind slot }
 {
