@@ -1,7 +1,7 @@
 -- How a job goes on from line to line. Assumes nothing.
 use Rattle.std.proofs.Common.{◌≡◌, ℕ, ◌≤◌, List, [], ◌∷◌, None, Option, ap, ◌∙◌}
-use Rattle.std.proofs.lemmas.Bool.{le-leb, lt-leb, cond-true, cond-false}
-use Rattle.calendar.specs.declared.refusal.Refusal.TheVariants.{MalformedLine, JobIncomplete}
+use Rattle.std.proofs.lemmas.Bool.{lt-leb, cond-false}
+use Rattle.calendar.specs.declared.refusal.Refusal.TheVariants.{MalformedLine}
 use Rattle.job.specs.declared.stop.Stop.TheVariants.{Refused}
 use Rattle.job.specs.Jobs.{JobState, ending, job_from, Stops}
 use Rattle.job.specs.Statements.{Says}

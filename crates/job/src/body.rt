@@ -24,7 +24,7 @@ fn body_line<'t>(
 ) -> Result<Reader<'t>, Stop>
     requires some { 0 < length reader.text.now }
     requires later { 7 ≤ reader.number }
-    ensures goes { MatchResult result (λ rest. LeadsTo sheet.old off_peak.old reader.entry sheet.new off_peak.new rest) (λ e. HaltsAt sheet.old off_peak.old reader.entry sheet.new e) }
+    ensures goes { MatchResult result (LeadsTo sheet.old off_peak.old reader.entry sheet.new off_peak.new) (HaltsAt sheet.old off_peak.old reader.entry sheet.new) }
     ensures keeps { Keeps sheet.old off_peak.old sheet.new off_peak.new }
 {
     let (statement, rest) = reader.next()?;
@@ -46,7 +46,7 @@ pub(crate) fn body(
     reader: Reader<'_>,
 ) -> Result<(), Stop>
     requires { reader.number ≡ 7 }
-    ensures ends { MatchResult result (λ u. EndsAs sheet.old off_peak.old reader.entry sheet.new off_peak.new) (λ e. HaltsAt sheet.old off_peak.old reader.entry sheet.new e) }
+    ensures ends { MatchResult result (λ u. EndsAs sheet.old off_peak.old reader.entry sheet.new off_peak.new) (HaltsAt sheet.old off_peak.old reader.entry sheet.new) }
     ensures keeps { Keeps sheet.old off_peak.old sheet.new off_peak.new }
 {
     // No `for`: the step is given the reader, with the number of its line, and gives back what is left.

@@ -1,4 +1,4 @@
-use Rattle.std.proofs.Common.{◌≡◌, ℕ, ◌≤◌, List, [], ◌∷◌, length, Some, None, Ok, Err, Result, sym, refl, ap, ◌∙◌, arith, rules}
+use Rattle.std.proofs.Common.{◌≡◌, ℕ, ◌≤◌, List, [], length, None, Ok, Err, Result, sym, refl, ap, ◌∙◌, arith, rules}
 use Rattle.calendar.specs.declared.month.Month.{Month}
 use Rattle.calendar.specs.declared.refusal.Refusal.{Refusal}
 use Rattle.calendar.specs.Gregorian.{month_refusal}
@@ -12,7 +12,7 @@ use Rattle.job.specs.declared.stop.Stop.{Stop}
 use Rattle.job.specs.JobLines.{said}
 use Rattle.job.specs.Jobs.{JobState, opening, book_places, Ending, job_from, job_ending}
 use Rattle.job.specs.Openings.{StopsEarly}
-use Rattle.job.specs.Reading.{told, StopsAt}
+use Rattle.job.specs.Reading.{told, Reads, StopsAt}
 use Rattle.job.specs.Statements.{code}
 use Rattle.job.specs.Stopping.{naming}
 use Rattle.job.proofs.JobRuns.{after_code, after_month}
@@ -34,29 +34,32 @@ a_month : (n year number : ℕ) (m : Month) (r : Result Month Refusal) → Ok m 
 a_month n year number m (Ok x) e j = j.0
 a_month n year number m (Err x) e j = let z : ◌≡◌ {A = ℕ} 0 1 = cc in absurd (let no : ⊥ = omega arith in no)
 
+-- a job text whose code line is read and granted
+code_read : (xs bytes : List ℕ) (first second : Reader) (room : ℕ) → first.number ≡ 1 → first.text.now ≡ xs → Reads first (code bytes) second → code_refusal bytes ≡ None → job_ending xs room ≡ job_from room book_places 2 (opening (opened bytes 0 0 room)) (told second)
+code_read xs bytes first second room one same reads granted =
+    let short : length xs ≤ 60000 = let few = first.few in let long = ap length same in omega arith in
+    after_code room xs bytes (told second) short (ap said (sym same) ∙ reads.0) granted
+
 pub returns-in_err-year : goal.returns-in_err-year
 returns-in_err-year c =
-    let xs = c.args.text.now in
     let first = c.in_ok-first.first in
     let bytes = c.in_ok-bytes.bytes.now in
     let second = c.in_ok-bytes.second in
-    let same = c.in_ok-first.ensures.1 in
-    let short : length xs ≤ 60000 = let few = first.few in let long = ap length same in let one = c.in_ok-first.ensures.0 in omega arith in
-    let read : said xs ≡ Some (code bytes) ∷ told second = ap said (sym same) ∙ c.in_ok-bytes.ensures.0 in
-    let early = stops_early xs second c.in_err-year.field-0.0 2 (λ room. opening (opened bytes 0 0 room)) (λ room. after_code room xs bytes (told second) short read (a_code first.number bytes c.in_ok-code.code c.new.result c.in_ok-code.ensures c.new.ensures)) (let one = c.in_ok-first.ensures.0 in let two = c.in_ok-bytes.ensures.1 in omega arith) (λ room. refl) c.in_err-year.ensures in
+    let a = a_code first.number bytes c.in_ok-code.code c.new.result c.in_ok-code.ensures c.new.ensures in
+    let here : second.number ≡ 2 = let one = c.in_ok-first.ensures.0 in let two = c.in_ok-bytes.ensures.1 in omega arith in
+    let early = stops_early c.args.text.now second c.in_err-year.field-0.0 2 (λ room. opening (opened bytes 0 0 room)) (λ room. code_read c.args.text.now bytes first second room c.in_ok-first.ensures.0 c.in_ok-first.ensures.1 c.in_ok-bytes.ensures a) here (λ room. refl) c.in_err-year.ensures in
     search rules
 
 pub returns-in_err-terms : goal.returns-in_err-terms
 returns-in_err-terms c =
-    let xs = c.args.text.now in
     let first = c.in_ok-first.first in
     let bytes = c.in_ok-bytes.bytes.now in
     let second = c.in_ok-bytes.second in
     let third = c.in_ok-year.third in
     let year = c.in_ok-year.year in
     let number = c.in_ok-year.number in
-    let same = c.in_ok-first.ensures.1 in
-    let short : length xs ≤ 60000 = let few = first.few in let long = ap length same in let one = c.in_ok-first.ensures.0 in omega arith in
-    let read : said xs ≡ Some (code bytes) ∷ told second = ap said (sym same) ∙ c.in_ok-bytes.ensures.0 in
-    let early = stops_early xs third c.in_err-terms.field-0.0 3 (λ room. opening (opened bytes year number room)) (λ room. after_code room xs bytes (told second) short read (a_code first.number bytes c.in_ok-code.code c.new.result c.in_ok-code.ensures c.new.ensures) ∙ after_month room bytes year number (told second) (told third) c.in_ok-year.ensures.0 (a_month second.number year number c.in_ok-month.month c.new-2.result c.in_ok-month.ensures c.new-2.ensures)) (let one = c.in_ok-first.ensures.0 in let two = c.in_ok-bytes.ensures.1 in let three = c.in_ok-year.ensures.1 in omega arith) (λ room. refl) c.in_err-terms.ensures in
+    let a = a_code first.number bytes c.in_ok-code.code c.new.result c.in_ok-code.ensures c.new.ensures in
+    let b = a_month second.number year number c.in_ok-month.month c.new-2.result c.in_ok-month.ensures c.new-2.ensures in
+    let here : third.number ≡ 3 = let one = c.in_ok-first.ensures.0 in let two = c.in_ok-bytes.ensures.1 in let three = c.in_ok-year.ensures.1 in omega arith in
+    let early = stops_early c.args.text.now third c.in_err-terms.field-0.0 3 (λ room. opening (opened bytes year number room)) (λ room. code_read c.args.text.now bytes first second room c.in_ok-first.ensures.0 c.in_ok-first.ensures.1 c.in_ok-bytes.ensures a ∙ after_month room bytes year number (told second) (told third) c.in_ok-year.ensures.0 b) here (λ room. refl) c.in_err-terms.ensures in
     search rules

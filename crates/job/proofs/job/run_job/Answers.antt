@@ -60,31 +60,22 @@ returns-in_err-body-clause-stored c =
     (filled end held (c.in_err-body.ensures.keeps.storage.behind ∙ ap (drop (sheet_held end)) c.open-sheet.ensures.untouched)
     ∙ ap (λ l. l ++ drop (length l) held) (sym left))
 
-pub returns-clause-answer : goal.returns-clause-answer
-returns-clause-answer c =
-    let room = length c.args.storage.now in
-    let whole : book_room c.open-off_peak.result ≡ book_places = let places = ap length c.open-off_peak.ensures.untouched in search rules in
-    let done = begun c.args.text.now c.in_ok-code.code c.in_ok-code.month c.in_ok-code.seventh c.open-sheet.result c.open-off_peak.result room c.in_ok-code.ensures c.open-sheet.ensures.model c.open-off_peak.ensures.entries whole ∙ c.in_ok-body.ensures.ends room in
-    c.print_sheet.ensures.answer ∙ ap (λ x. printed_bytes (print_of (length c.args.buffer.now) x)) (sym done)
-
-pub returns-clause-written : goal.returns-clause-written
-returns-clause-written c =
-    let room = length c.args.storage.now in
-    let whole : book_room c.open-off_peak.result ≡ book_places = let places = ap length c.open-off_peak.ensures.untouched in search rules in
-    let done = begun c.args.text.now c.in_ok-code.code c.in_ok-code.month c.in_ok-code.seventh c.open-sheet.result c.open-off_peak.result room c.in_ok-code.ensures c.open-sheet.ensures.model c.open-off_peak.ensures.entries whole ∙ c.in_ok-body.ensures.ends room in
-    c.print_sheet.ensures.written ∙ ap (λ x. buffer_after (print_of (length c.args.buffer.now) x) c.args.buffer.now) (sym done)
-
-pub returns-clause-stored : goal.returns-clause-stored
-returns-clause-stored c =
+pub returns : goal.returns
+returns c =
     let room = length c.args.storage.now in
     let held = c.args.storage.now in
+    let print_room = length c.args.buffer.now in
     let end = c.body.new.sheet in
     let whole : book_room c.open-off_peak.result ≡ book_places = let places = ap length c.open-off_peak.ensures.untouched in search rules in
     let done = begun c.args.text.now c.in_ok-code.code c.in_ok-code.month c.in_ok-code.seventh c.open-sheet.result c.open-off_peak.result room c.in_ok-code.ensures c.open-sheet.ensures.model c.open-off_peak.ensures.entries whole ∙ c.in_ok-body.ensures.ends room in
-    by_way (sheet_storage end) (let loan = c.in_ok-body.ensures.keeps.storage.same_loan in search rules)
-    (filled end held (c.in_ok-body.ensures.keeps.storage.behind ∙ ap (drop (sheet_held end)) c.open-sheet.ensures.untouched)
-    ∙ ap (λ x. storage_after x held) (sym done))
-
-pub returns-clause-within : goal.returns-clause-within
-returns-clause-within c =
-    kept_within c.print_sheet.result _ c.args.buffer.now c.print_sheet.new.buffer c.print_sheet.ensures.answer c.print_sheet.ensures.written c.print_sheet.auto.buffer
+    let answer = c.print_sheet.ensures.answer ∙ ap (λ x. printed_bytes (print_of print_room x)) (sym done) in
+    let written = c.print_sheet.ensures.written ∙ ap (λ x. buffer_after (print_of print_room x) c.args.buffer.now) (sym done) in
+    record {
+      answer = answer;
+      written = written;
+      stored =
+          by_way (sheet_storage end) (let loan = c.in_ok-body.ensures.keeps.storage.same_loan in search rules)
+          (filled end held (c.in_ok-body.ensures.keeps.storage.behind ∙ ap (drop (sheet_held end)) c.open-sheet.ensures.untouched)
+          ∙ ap (λ x. storage_after x held) (sym done));
+      within = kept_within c.print_sheet.result _ c.args.buffer.now c.print_sheet.new.buffer answer written c.print_sheet.auto.buffer;
+    }
