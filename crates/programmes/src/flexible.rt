@@ -86,8 +86,10 @@ impl<P: BareProgramme> Programme for Flexible<P> {
     }
 
     fn refusal(&self, site: &Site<'_>) -> Option<Refusal> {
-        let own = too_few_days(site, CallKind::Flexible).then_some(Refusal::TooFewDaysToAverage);
-        self.lower.refusal(site).or(own)
+        match self.lower.refusal(site) {
+            None => too_few_days(site, CallKind::Flexible).then_some(Refusal::TooFewDaysToAverage),
+            refused => refused,
+        }
     }
 
     fn own_call(&self, site: &Site<'_>, day: u8) -> Option<Call> {
