@@ -1,6 +1,6 @@
 -- The readings of a metered site: of a day, or of none, as sums take them, and none above the highest. Assumes nothing.
-use Rattle.std.proofs.Common.{◌≡◌, ℕ, zero, suc, ◌+◌, ◌*◌, ◌<◌, ◌≤◌, Bool, false, ltb, List, [], ◌∷◌, ◌++◌, Option, Some, None, Bor, length, sum_by, get_or, unwrap_or, MatchOption, sym, ap, ◌∙◌, arith}
-use Rattle.std.proofs.lemmas.List.{get_or_past, length-append}
+use Rattle.std.proofs.Common.{◌≡◌, ℕ, zero, suc, ◌+◌, ◌-◌, ◌*◌, ◌<◌, ◌≤◌, Bool, false, ltb, List, [], ◌∷◌, ◌++◌, Option, Some, None, Bor, length, sum_by, get_or, unwrap_or, MatchOption, take, drop, sym, refl, ap, ◌∙◌, arith}
+use Rattle.std.proofs.lemmas.List.{get_or-take, get_or-drop, get_or_append_left, get_or-append_right, get_or_past, length-append, length-take, length-drop}
 use Rattle.std.proofs.lemmas.Bool.{or_parts}
 use Rattle.std.proofs.lemmas.Bool.Decides.{nat_tests}
 use Rattle.std.proofs.lemmas.List.Sums.{sum_by-cons}
@@ -11,7 +11,43 @@ use Rattle.programmes.specs.Meterings.{site_of, demand_of, ReadsDay}
 use Rattle.programmes.specs.Sites.{eligible}
 use Rattle.programmes.specs.Amounts.{kw_like, kw_bounded, slots_few, latest_few}
 
+-- a cut of a list that has enough
+cut_long : (xs : List ℕ) (at n : ℕ) → at + n ≤ length xs → length (take n (drop at xs)) ≡ n
+cut_long xs at n h = simp (length-take, length-drop) (omega arith)
+
 module _ (m : Metered) (d : ℕ) where
+  -- where a slot of a day of the lead stands, and of one of the month
+  lead_slot : d < 31 → (slot : ℕ) → slot < 96 → get_or (take 96 (drop (96 * d) m.lead.now)) slot 0 ≡ demand_of m d slot
+  lead_slot low slot h =
+      let long = m.full.lead_long in
+      get_or-take 96 (drop (96 * d) m.lead.now) slot 0 h
+      ∙ get_or-drop (96 * d) m.lead.now slot 0
+      ∙ sym (get_or_append_left m.lead.now m.readings.now 0 (96 * d + slot) (omega arith))
+
+  month_slot : (k : ℕ) → d ≡ 31 + k → (slot : ℕ) → slot < 96 → get_or (take 96 (drop (96 * k) m.readings.now)) slot 0 ≡ demand_of m d slot
+  month_slot k e slot h =
+      let long = m.full.lead_long in
+      let at : 96 * k + slot ≡ 96 * d + slot - length m.lead.now = omega arith in
+      get_or-take 96 (drop (96 * k) m.readings.now) slot 0 h
+      ∙ get_or-drop (96 * k) m.readings.now slot 0
+      ∙ ap (λ i. get_or m.readings.now i 0) at
+      ∙ sym (get_or-append_right m.lead.now m.readings.now (length m.lead.now) (96 * d + slot) 0 refl (omega arith))
+
+  -- the readings that stand at a day's place are that day's
+  pub of_lead : d < 31 → (r : Option (Bor (List ℕ))) → MatchOption r (length m.lead.now < 96 * d + 96) (λ b. (96 * d + 96 ≤ length m.lead.now) × (b.now ≡ take 96 (drop (96 * d) m.lead.now))) → MatchOption r (31 + (site_of m).days ≤ d) (λ b. (d < 31 + (site_of m).days) × ReadsDay b.now (demand_of m d))
+  of_lead low None short = let long = m.full.lead_long in omega (arith, short)
+  of_lead low (Some b) read =
+      let long = ap length read.1 ∙ cut_long m.lead.now (96 * d) 96 read.0 in
+      (omega arith, record { long = long; each = λ slot h. ap (λ xs. get_or xs slot 0) read.1 ∙ lead_slot low slot h })
+
+  pub of_month : (k : ℕ) → d ≡ 31 + k → (r : Option (Bor (List ℕ))) → MatchOption r (length m.readings.now < 96 * k + 96) (λ b. (96 * k + 96 ≤ length m.readings.now) × (b.now ≡ take 96 (drop (96 * k) m.readings.now))) → MatchOption r (31 + (site_of m).days ≤ d) (λ b. (d < 31 + (site_of m).days) × ReadsDay b.now (demand_of m d))
+  of_month k e None short = let month = m.full.month_long in omega (arith, short)
+  of_month k e (Some b) read =
+      let month = m.full.month_long in
+      let long = ap length read.1 ∙ cut_long m.readings.now (96 * k) 96 read.0 in
+      let within = read.0 in
+      (omega (arith, within), record { long = long; each = λ slot h. ap (λ xs. get_or xs slot 0) read.1 ∙ month_slot k e slot h })
+
   -- a day behind the month has no demand
   past_month : 31 + (site_of m).days ≤ d → (slot : ℕ) → demand_of m d slot ≡ 0
   past_month past slot =

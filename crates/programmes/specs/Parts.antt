@@ -18,3 +18,9 @@ abbrev pub holds : Part → ℕ → Bool
 holds (Whole c) = covers c
 holds (Shared c other) = shared c other
 holds (Apart c other) = apart c other
+
+-- the call whose slots a part has, or some of them
+abbrev pub call_of : Part → Call
+call_of (Whole c) = c
+call_of (Shared c other) = c
+call_of (Apart c other) = c

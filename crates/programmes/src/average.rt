@@ -8,7 +8,6 @@ ghost use Rattle.programmes.specs.SiteModels.{site_model};
 use crate::metered::Metered;
 use crate::part::Part;
 use crate::site::Site;
-use readings::SLOTS_A_DAY;
 
 // Grains in a kW.
 pub const GRAINS_A_KW: u64 = 1_200;
@@ -16,16 +15,14 @@ pub const GRAINS_A_KW: u64 = 1_200;
 // How many days an average is over.
 pub(crate) const DAYS_AVERAGED: usize = 5;
 
-// The slots of a day.
-const SLOTS: u8 = SLOTS_A_DAY as u8;
-
 // The sum in kW of a day's readings in a part.
 fn kw_in(part: &Part, day: &[u32]) -> u64
     ensures value { result ≡ kw_in (holds part.now) (λ slot. slice_index day.now slot) }
     ensures bound { result ≤ 96 * 2 ^ 32 }
 {
-    (0..SLOTS)
-        .zip(day)
+    let first = part.first_slot();
+    (first..part.end_slot())
+        .zip(day.get(usize::from(first)..).unwrap_or(&[]))
         .filter(|(slot, _)| part.holds(*slot))
         .map(|(_, kw)| u64::from(*kw))
         .sum()
@@ -36,7 +33,9 @@ pub(crate) fn slots_in(part: &Part) -> u64
     ensures value { result ≡ slots_in (holds part.now) }
     ensures few { result ≤ 96 }
 {
-    (0..SLOTS).filter(|slot| part.holds(*slot)).count() as u64
+    (part.first_slot()..part.end_slot())
+        .filter(|slot| part.holds(*slot))
+        .count() as u64
 }
 
 // A quotient without its fraction; over nothing it counts as 0.

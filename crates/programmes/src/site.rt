@@ -34,10 +34,13 @@ impl Site<'_> {
         (self.month.first_day() + u32::from(day)).saturating_sub(u32::from(LEAD_DAYS))
     }
 
-    // The call of a kind on a day.
+    // The call of a kind on a day. Where nothing is called, no day's number is worked out.
     pub fn call(&self, kind: CallKind, day: u8) -> Option<Call>
         ensures { result ≡ call_at (site_model self.now) kind day }
     {
+        if self.calls.is_empty() {
+            return None;
+        }
         call_on(self.calls, self.day_number(day), kind)
     }
 

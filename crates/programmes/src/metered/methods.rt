@@ -1,5 +1,5 @@
 // How a metered site is made, and what it holds of a day.
-ghost use Rattle.std.specs.Prelude.{◌≡◌, ◌+◌, ◌<◌, ◌≤◌, MatchOption};
+ghost use Rattle.std.specs.Prelude.{◌≡◌, ◌+◌, ◌*◌, ◌<◌, ◌≤◌, length, take, drop, MatchOption};
 ghost use Rattle.calendar.specs.Judging.{Judged};
 ghost use Rattle.programmes.specs.Meterings.{site_of, demand_of, metering_refusal, IsMetered, ReadsDay};
 
@@ -10,6 +10,14 @@ use readings::{FullMonth, SLOTS_A_DAY, any_above};
 
 // The readings of a lead.
 const LEAD_READINGS: usize = SLOTS_A_DAY * LEAD_DAYS as usize;
+
+// The 96 readings of a day among those from day 0 on, found by their place: `nth` of a chain of chunks was tried, and steps through the days before it.
+fn day_among(readings: &[u32], day: u8) -> Option<&[u32]>
+    ensures { MatchOption result (length readings.now < 96 * day + 96) (λ r. (96 * day + 96 ≤ length readings.now) × (r.now ≡ take 96 (drop (96 * day) readings.now))) }
+{
+    let at = SLOTS_A_DAY * usize::from(day);
+    readings.get(at..at + SLOTS_A_DAY)
+}
 
 impl<'a> Metered<'a> {
     // A site with these readings of its lead and of its month.
@@ -39,9 +47,9 @@ impl<'a> Metered<'a> {
     pub fn day_readings(&self, day: u8) -> Option<&'a [u32]>
         ensures { MatchOption result (31 + (site_of self.now).days ≤ day) (λ r. (day < 31 + (site_of self.now).days) × ReadsDay r.now (demand_of self.now day)) }
     {
-        self.lead
-            .chunks_exact(SLOTS_A_DAY)
-            .chain(self.readings.chunks_exact(SLOTS_A_DAY))
-            .nth(usize::from(day))
+        match day.checked_sub(LEAD_DAYS) {
+            Some(of_month) => day_among(self.readings, of_month),
+            None => day_among(self.lead, day),
+        }
     }
 }
