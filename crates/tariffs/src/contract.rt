@@ -1,5 +1,6 @@
 // What a contract tariff answers beyond a tariff. As with a tariff, code above it rests on the laws of its meaning alone.
 ghost use Rattle.std.specs.Prelude.{◌≡◌};
+ghost use Rattle.tariffs.specs.declared.rank.Rank.TheVariants.{OffPeak};
 ghost use Rattle.tariffs.specs.Contract.{ContractMeaning, ContractLaws, rank_of_kind, saturday_rank};
 
 use crate::capacities::Capacities;
@@ -36,12 +37,12 @@ fn saturday_rank(slot: usize) -> Rank
     }
 }
 
-// The rank of a slot of a day in a contract tariff, given its rank on a working day: the one match that H3 and L2 share.
-pub(crate) fn contract_rank(working: Rank, kind: DayKind, slot: usize) -> Rank
-    ensures { result ≡ rank_of_kind working kind slot }
+// The rank of a slot of a day that is no working day, the same in every contract tariff: what H3 and L2 share. The rank on a working day is no argument,
+// since it would then be worked out for every day.
+pub(crate) fn resting_rank(kind: DayKind, slot: usize) -> Rank
+    ensures { result ≡ rank_of_kind OffPeak kind slot }
 {
     match kind {
-        DayKind::Working => working,
         DayKind::Saturday => saturday_rank(slot),
         _ => Rank::OffPeak,
     }
