@@ -3,8 +3,7 @@ ghost use Rattle.std.specs.Prelude.{◌≡◌};
 ghost use Rattle.std.specs.Option.{option_map};
 ghost use Rattle.job.specs.Texts.{cut_at, parts, number_of, digit_of};
 
-// What stands before and behind the first of these bytes. Not inlined, since its loop is then one of bytes alone.
-#[inline(never)]
+// What stands before and behind the first of these bytes.
 pub fn cut(text: &[u8], at: u8) -> Option<(&[u8], &[u8])>
     ensures { option_map parts result ≡ cut_at at text.now }
 {
