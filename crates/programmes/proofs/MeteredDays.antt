@@ -7,7 +7,7 @@ use Rattle.std.proofs.lemmas.List.Sums.{sum_by-cons}
 use Rattle.readings.specs.Sheets.{any_above}
 use Rattle.programmes.specs.declared.metered.Metered.{Metered}
 use Rattle.programmes.specs.Averages.{kw_in, averaged}
-use Rattle.programmes.specs.Meterings.{site_of, demand_of, ReadsDay}
+use Rattle.programmes.specs.Meterings.{site_of, demand_of, IsDayAmong, ReadsDay}
 use Rattle.programmes.specs.Sites.{eligible}
 use Rattle.programmes.specs.Amounts.{kw_like, kw_bounded, slots_few, latest_few}
 
@@ -34,13 +34,13 @@ module _ (m : Metered) (d : ℕ) where
       ∙ sym (get_or-append_right m.lead.now m.readings.now (length m.lead.now) (96 * d + slot) 0 refl (omega arith))
 
   -- the readings that stand at a day's place are that day's
-  pub of_lead : d < 31 → (r : Option (Bor (List ℕ))) → MatchOption r (length m.lead.now < 96 * d + 96) (λ b. (96 * d + 96 ≤ length m.lead.now) × (b.now ≡ take 96 (drop (96 * d) m.lead.now))) → MatchOption r (31 + (site_of m).days ≤ d) (λ b. (d < 31 + (site_of m).days) × ReadsDay b.now (demand_of m d))
+  pub of_lead : d < 31 → (r : Option (Bor (List ℕ))) → IsDayAmong m.lead.now d r → MatchOption r (31 + (site_of m).days ≤ d) (λ b. (d < 31 + (site_of m).days) × ReadsDay b.now (demand_of m d))
   of_lead low None short = let long = m.full.lead_long in omega (arith, short)
   of_lead low (Some b) read =
       let long = ap length read.1 ∙ cut_long m.lead.now (96 * d) 96 read.0 in
       (omega arith, record { long = long; each = λ slot h. ap (λ xs. get_or xs slot 0) read.1 ∙ lead_slot low slot h })
 
-  pub of_month : (k : ℕ) → d ≡ 31 + k → (r : Option (Bor (List ℕ))) → MatchOption r (length m.readings.now < 96 * k + 96) (λ b. (96 * k + 96 ≤ length m.readings.now) × (b.now ≡ take 96 (drop (96 * k) m.readings.now))) → MatchOption r (31 + (site_of m).days ≤ d) (λ b. (d < 31 + (site_of m).days) × ReadsDay b.now (demand_of m d))
+  pub of_month : (k : ℕ) → d ≡ 31 + k → (r : Option (Bor (List ℕ))) → IsDayAmong m.readings.now k r → MatchOption r (31 + (site_of m).days ≤ d) (λ b. (d < 31 + (site_of m).days) × ReadsDay b.now (demand_of m d))
   of_month k e None short = let month = m.full.month_long in omega (arith, short)
   of_month k e (Some b) read =
       let month = m.full.month_long in

@@ -1,5 +1,6 @@
 -- What a metered site holds, and when a site can be metered. Assumes nothing.
-use Rattle.std.specs.Prelude.{◌≡◌, ℕ, ◌<◌, Bool, not, ◌&&◌, List, length, Some, None, Option, if◌then◌else◌, slice_index, ◌==◌}
+use Rattle.std.specs.Prelude.{◌≡◌, ℕ, ◌+◌, ◌*◌, ◌<◌, ◌≤◌, Bool, not, ◌&&◌, List, length, take, drop, Some, None, Option, MatchOption, if◌then◌else◌, slice_index, ◌==◌}
+use Rattle.std.specs.Borrow.{Bor}
 use Rattle.calendar.specs.declared.refusal.Refusal.{Refusal}
 use Rattle.calendar.specs.declared.refusal.Refusal.TheVariants.{MonthNotFull, LeadNotUsable}
 use Rattle.readings.specs.FullMonths.{is_full}
@@ -30,6 +31,11 @@ pub record IsMetered (m : Metered) (s : Site) (lead readings : List ℕ) : Type 
   pub same_site : m.site ≡ s
   pub same_lead : m.lead.now ≡ lead
   pub same_readings : m.readings.now ≡ readings
+
+-- the readings at a day's place among those from day 0 on, or none where these end before the day does
+abbrev pub IsDayAmong : List ℕ → ℕ → Option (Bor (List ℕ)) → Type 0
+IsDayAmong readings d r =
+    MatchOption r (length readings < 96 * d + 96) (λ b. (96 * d + 96 ≤ length readings) × (b.now ≡ take 96 (drop (96 * d) readings)))
 
 -- these are the readings of a day's 96 slots
 pub record ReadsDay (day : List ℕ) (kw : ℕ → ℕ) : Type 0 where

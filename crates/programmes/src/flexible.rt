@@ -86,6 +86,7 @@ impl<P: BareProgramme> Programme for Flexible<P> {
     }
 
     fn refusal(&self, site: &Site<'_>) -> Option<Refusal> {
+        // The layer's own is worked out only where the lower one refuses nothing. No `or_else`: tried, and the proof learns nothing of what its closure returns.
         match self.lower.refusal(site) {
             None => too_few_days(site, CallKind::Flexible).then_some(Refusal::TooFewDaysToAverage),
             refused => refused,

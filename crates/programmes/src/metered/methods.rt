@@ -1,7 +1,7 @@
 // How a metered site is made, and what it holds of a day.
-ghost use Rattle.std.specs.Prelude.{◌≡◌, ◌+◌, ◌*◌, ◌<◌, ◌≤◌, length, take, drop, MatchOption};
+ghost use Rattle.std.specs.Prelude.{◌≡◌, ◌+◌, ◌<◌, ◌≤◌, MatchOption};
 ghost use Rattle.calendar.specs.Judging.{Judged};
-ghost use Rattle.programmes.specs.Meterings.{site_of, demand_of, metering_refusal, IsMetered, ReadsDay};
+ghost use Rattle.programmes.specs.Meterings.{site_of, demand_of, metering_refusal, IsDayAmong, IsMetered, ReadsDay};
 
 use super::Metered;
 use crate::site::{LEAD_DAYS, Site};
@@ -13,7 +13,7 @@ const LEAD_READINGS: usize = SLOTS_A_DAY * LEAD_DAYS as usize;
 
 // The 96 readings of a day among those from day 0 on, found by their place: `nth` of a chain of chunks was tried, and steps through the days before it.
 fn day_among(readings: &[u32], day: u8) -> Option<&[u32]>
-    ensures { MatchOption result (length readings.now < 96 * day + 96) (λ r. (96 * day + 96 ≤ length readings.now) × (r.now ≡ take 96 (drop (96 * day) readings.now))) }
+    ensures { IsDayAmong readings.now day result }
 {
     let at = SLOTS_A_DAY * usize::from(day);
     readings.get(at..at + SLOTS_A_DAY)
